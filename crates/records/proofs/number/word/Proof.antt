@@ -1,0 +1,24 @@
+-- `number::word` meets its contract: two halves. Assumes nothing.
+use Rattle.records.specs.Bytes.{le64}
+use borrow.Author.Needs.{needs}
+use Rattle.records.proofs.number.word.Statement.{statement}
+use Rattle.records.proofs.number.word.Tie as tie
+
+half-requires : tie.Need-half-requires
+half-requires c κs = search needs
+
+add-half : tie.Need-add-half
+add-half c = search needs
+
+half-requires-2 : tie.Need-half-requires-2
+half-requires-2 c κs = search needs
+
+eight-requires : tie.Need-eight-requires
+eight-requires c κs = search needs
+
+returns : tie.Need-returns
+unfolding le64
+returns c = rw (c .eight .ensures, c .before .half2 .ensures .0, c .before .before .half .ensures .0)
+
+pub word-spec : {M : Type 1} → statement M
+word-spec = tie.close (tie.spec half-requires add-half half-requires-2 eight-requires returns)

@@ -1,0 +1,6 @@
+pub mod Bytes
+pub mod Setup
+pub mod Leaf
+pub mod Access
+pub mod MapFile
+pub mod Fields

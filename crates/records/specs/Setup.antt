@@ -1,0 +1,43 @@
+-- Document 01, 'Setup and leaf records', first paragraph: a setup of 52 bytes. Assumes nothing.
+use Prim.Native.Nat.{ℕ, _^_}
+use mathlib.Core.List.{List}
+use mathlib.Core.Bool.{Bool, cond}
+use lib.Dec.{eqb, leb}
+use lib.ListN.{length}
+use Rattle.records.specs.Bytes.{bit, le32, le64}
+use Rattle.records.specs.declared.setup.Control.{Control}
+use Rattle.records.specs.declared.setup.Setup.{Setup}
+use Rattle.records.specs.declared.setup.SetupRead.{SetupRead}
+use Rattle.records.specs.declared.setup.SetupRead.the-variants.{Read, Refused}
+
+-- the control bits of a control word by name; `above`: a bit above 12 is set
+unfoldable pub controlOf : ℕ → Control
+controlOf w = record {
+  two = bit w 0;
+  stage1 = bit w 1;
+  stage2 = bit w 2;
+  indirect = bit w 3;
+  overlay = record { privileged = bit w 4; unprivileged = bit w 5 };
+  wxn = bit w 6;
+  pan = bit w 7;
+  unlimited = bit w 8;
+  fwb = bit w 9;
+  dc = bit w 10;
+  icacheable = bit w 11;
+  aie = bit w 12;
+  above = leb (2 ^ 13) w;
+}
+
+-- the setup of 52 bytes: the control word, then MAIR, MAIR2, PIR privileged and unprivileged, POR privileged and unprivileged
+unfoldable pub setupOf : List ℕ → Setup
+setupOf s = record {
+  control = controlOf (le32 s 0);
+  mair = le64 s 4;
+  mair2 = le64 s 12;
+  pir = record { privileged = le64 s 20; unprivileged = le64 s 28 };
+  por = record { privileged = le64 s 36; unprivileged = le64 s 44 };
+}
+
+-- refusal 13 for a setup: it is not 52 bytes long
+unfoldable pub readSetup : List ℕ → SetupRead
+readSetup s = cond (eqb (length s) 52) (Read (setupOf s)) (Refused 13)

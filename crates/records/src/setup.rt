@@ -1,0 +1,106 @@
+// A setup: the control word by its bits, and six registers.
+ghost use mathlib.Core.Path.{_≡_};
+ghost use Prim.Native.Nat.{_<_};
+ghost use lib.ListN.{length};
+ghost use Rattle.records.specs.Setup.{controlOf, setupOf, readSetup};
+use crate::number::half;
+use crate::number::word;
+
+// A bit for each privilege level.
+pub struct LevelBits {
+    pub privileged: bool,
+    pub unprivileged: bool,
+}
+
+// A register for each privilege level.
+pub struct LevelRegisters {
+    pub privileged: u64,
+    pub unprivileged: u64,
+}
+
+// The control bits, 0 to 12 in order, and whether one above 12 is set.
+pub struct Control {
+    // Two privilege levels.
+    pub two: bool,
+    pub stage1: bool,
+    pub stage2: bool,
+    pub indirect: bool,
+    pub overlay: LevelBits,
+    pub wxn: bool,
+    pub pan: bool,
+    // Table limits disabled.
+    pub unlimited: bool,
+    pub fwb: bool,
+    pub dc: bool,
+    // Instruction cacheable.
+    pub icacheable: bool,
+    pub aie: bool,
+    pub above: bool,
+}
+
+pub struct Setup {
+    pub control: Control,
+    pub mair: u64,
+    pub mair2: u64,
+    pub pir: LevelRegisters,
+    pub por: LevelRegisters,
+}
+
+// A setup, or a refusal's number.
+pub enum SetupRead {
+    Read(Setup),
+    Refused(u8),
+}
+
+// The control bits of a control word.
+pub fn read_control(w: u32) -> Control
+    ensures { λ r. ⌜ r ≡ controlOf w ⌝ }
+{
+    Control {
+        two: (w >> 0) % 2 == 1,
+        stage1: (w >> 1) % 2 == 1,
+        stage2: (w >> 2) % 2 == 1,
+        indirect: (w >> 3) % 2 == 1,
+        overlay: LevelBits {
+            privileged: (w >> 4) % 2 == 1,
+            unprivileged: (w >> 5) % 2 == 1,
+        },
+        wxn: (w >> 6) % 2 == 1,
+        pan: (w >> 7) % 2 == 1,
+        unlimited: (w >> 8) % 2 == 1,
+        fwb: (w >> 9) % 2 == 1,
+        dc: (w >> 10) % 2 == 1,
+        icacheable: (w >> 11) % 2 == 1,
+        aie: (w >> 12) % 2 == 1,
+        above: 8192 <= w,
+    }
+}
+
+fn decoded(s: &[u8]) -> Setup
+    requires { ⌜ length (now s) ≡ 52 ⌝ }
+    ensures { λ r. ⌜ r ≡ setupOf (now (s .entry)) ⌝ }
+{
+    Setup {
+        control: read_control(half(s, 0) as u32),
+        mair: word(s, 4),
+        mair2: word(s, 12),
+        pir: LevelRegisters {
+            privileged: word(s, 20),
+            unprivileged: word(s, 28),
+        },
+        por: LevelRegisters {
+            privileged: word(s, 36),
+            unprivileged: word(s, 44),
+        },
+    }
+}
+
+// The setup of 52 bytes, or 13.
+pub fn read_setup(s: &[u8]) -> SetupRead
+    ensures { λ r. ⌜ r ≡ readSetup (now (s .entry)) ⌝ }
+{
+    if s.len() != 52 {
+        return SetupRead::Refused(13);
+    }
+    SetupRead::Read(decoded(s))
+}
