@@ -39,7 +39,7 @@ fn leaf_fields(file: &[u8], values: &mut [u8]) -> Fields
     let mut at: usize = 55;
     while at < file.len() {
         if n == 2048 {
-            return Fields::IllFormed;
+            return Fields::IllFormed; // one leaf field too many
         }
         if begins_with(file, at, 2, 18) {
             let from = at + 3;
@@ -49,7 +49,7 @@ fn leaf_fields(file: &[u8], values: &mut [u8]) -> Fields
             at = next;
             n += 1;
         } else {
-            return Fields::IllFormed;
+            return Fields::IllFormed; // no whole leaf field
         }
     }
     Fields::Whole(n)
