@@ -119,9 +119,13 @@ stage2Of d = record {
   bit51 = bit51 d;
 }
 
--- the base code that a PIIndex picks in a PIR, and the overlay slot that a POIndex picks in a POR
+-- the base code that a PIIndex picks in a PIR
 abbrev pub codeAt : ℕ → PIIndex → ℕ
 codeAt pir i = nibble pir (i .0 % 16)
 
+-- the place of the overlay slot that a POIndex picks, 0 to 7, and the slot in a POR
+abbrev pub placeOf : POIndex → ℕ
+placeOf i = i .0 % 8
+
 abbrev pub slotAt : ℕ → POIndex → ℕ
-slotAt por i = nibble por (i .0 % 8)
+slotAt por i = nibble por (placeOf i)

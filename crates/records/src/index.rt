@@ -1,7 +1,7 @@
 // PIIndex picks a base code and POIndex picks an overlay slot. Their fields are private and descriptor decoding alone
 // makes them, so that neither can stand where the other belongs.
 ghost use mathlib.Core.Path.{_≡_};
-ghost use Rattle.records.specs.Leaf.{piIndex, poIndex, codeAt, slotAt};
+ghost use Rattle.records.specs.Leaf.{piIndex, poIndex, codeAt, placeOf, slotAt};
 
 pub struct PIIndex(u8);
 
@@ -36,5 +36,13 @@ impl POIndex {
     {
         let i = self.0;
         ((por >> (4 * (i % 8))) % 16) as u8
+    }
+
+    // The place of that slot, 0 to 7.
+    pub fn place(self) -> usize
+        ensures { λ r. ⌜ r ≡ placeOf self ⌝ }
+    {
+        let i = self.0;
+        (i % 8) as usize
     }
 }

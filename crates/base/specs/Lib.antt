@@ -1,0 +1,3 @@
+pub mod Direct
+pub mod Indirect
+pub mod Base

@@ -1,0 +1,29 @@
+-- What an access number that was read tells. Assumes nothing.
+use mathlib.Core.Path.{_≡_, refl, sym, _∙_}
+use mathlib.Core.Bool.{Bool, true, false}
+use Prim.Native.Nat.{ℕ, _≤_, _<_}
+use native.Mathlib.Omega.{arith}
+use lib.Dec.{leb}
+use borrow.Author.Tests.{leb-true, leb-false}
+use Rattle.records.specs.Access.{accessAt, readAccess}
+use Rattle.records.specs.declared.access.Access.{Access}
+use Rattle.records.specs.declared.access.AccessRead.{AccessRead}
+use Rattle.records.specs.declared.access.AccessRead.the-variants.{Read, Unknown}
+
+-- a number that no access has is above 5
+pub unknown : (n : ℕ) → readAccess n ≡ Unknown → 5 < n
+unfolding readAccess
+unknown n e = go (leb n 5) refl
+  where
+    go : (t : Bool) → leb n 5 ≡ t → 5 < n
+    go true q = let f : Read (accessAt n) ≡ Unknown = rw q at e in let z : _≡_ {A = ℕ} 0 1 = cc in absurd (omega arith)
+    go false q = leb-false n 5 q
+
+-- an access that was read has a number up to 5
+pub known : (n : ℕ) (a : Access) → readAccess n ≡ Read a → (n ≤ 5) × (a ≡ accessAt n)
+unfolding readAccess
+known n a e = go (leb n 5) refl
+  where
+    go : (t : Bool) → leb n 5 ≡ t → (n ≤ 5) × (a ≡ accessAt n)
+    go true q = let f : Read (accessAt n) ≡ Read a = rw q at e in (leb-true n 5 q, cc)
+    go false q = let f : Unknown ≡ Read a = rw q at e in let z : _≡_ {A = ℕ} 0 1 = cc in absurd (omega arith)

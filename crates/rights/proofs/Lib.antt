@@ -1,0 +1,4 @@
+pub mod Agree
+pub mod Ranges
+pub mod Steps
+pub mod Tables

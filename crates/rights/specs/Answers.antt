@@ -1,0 +1,28 @@
+-- Document 01, 'The order a judgement is made in': 'the first that applies is the answer'. Assumes nothing.
+use Prim.Native.Nat.{ℕ}
+use mathlib.Core.Bool.{Bool, true, false, cond}
+use Rattle.rights.specs.declared.answer.Kind.{Kind}
+use Rattle.rights.specs.declared.answer.Answer.{Answer}
+use Rattle.rights.specs.declared.answer.Answer.the-variants.{Permitted, Fault, Refused}
+
+-- a step's answer, and what follows it: a fault or refusal stands
+abbrev pub follow : Answer → Answer → Answer
+follow Permitted b = b
+follow (Fault f) b = Fault f
+follow (Refused n) b = Refused n
+
+-- a fault carries its stage and kind
+abbrev pub faultOf : ℕ → Kind → Answer
+faultOf s k = Fault (record { stage = s; kind = k })
+
+abbrev pub faultUnless : Bool → ℕ → Kind → Answer
+faultUnless ok s k = cond ok Permitted (faultOf s k)
+
+abbrev pub refuseIf : Bool → ℕ → Answer
+refuseIf bad n = cond bad (Refused n) Permitted
+
+-- an access is permitted by the answer
+abbrev pub permitted : Answer → Bool
+permitted Permitted = true
+permitted (Fault f) = false
+permitted (Refused n) = false
