@@ -1,5 +1,5 @@
--- Laws that turn one computation over a finite domain into the equation at each of its values: all numbers below k, and all lists
--- of n truth values. A table's rule and a rule over truth values are proved by them, with `refl`. Assumes nothing.
+-- Laws that turn one computation over a finite domain into the equation at each of its values: all numbers below k, both truth
+-- values, and all lists of n truth values. A table's rule and a rule over truth values are proved by them, with `refl`. Assumes nothing.
 use mathlib.Core.Path.{_≡_, refl}
 use mathlib.Core.Bool.{Bool, true, false}
 use mathlib.Core.List.{List, [], _∷_}
@@ -23,6 +23,15 @@ pub at : {A : Type 0} (k : ℕ) (f g : ℕ → A) → upto k f ≡ upto k g → 
 at zero f g e n h = absurd (not-suc-le-zero h)
 at (suc k) f g e zero h = head e
 at (suc k) f g e (suc n) h = at k (λ (m : ℕ). f (suc m)) (λ (m : ℕ). g (suc m)) (tail e) n (le-of-suc-le-suc h)
+
+-- f at false and at true
+abbrev pub both : {A : Type 0} → (Bool → A) → List A
+both f = f false ∷ f true ∷ []
+
+-- two functions that agree at false and at true agree at each truth value
+pub at-both : {A : Type 0} (f g : Bool → A) → both f ≡ both g → (t : Bool) → f t ≡ g t
+at-both f g e false = head e
+at-both f g e true = head (tail e)
 
 -- the values of a function at all lists of n truth values
 pub data Tree (A : Type 0) : Type 0 where

@@ -1,0 +1,52 @@
+-- The refusal of `checkOf` is the one that the attribute steps of any access meet: it does not depend on whether the access executes.
+-- For those who check a leaf once and judge its accesses. Assumes nothing.
+use mathlib.Core.Path.{_≡_, refl, sym, _∙_}
+use mathlib.Core.Bool.{Bool, true, false, cond}
+use Prim.Native.Nat.{ℕ}
+use Rattle.attributes.specs.Mair.{reservedByte}
+use Rattle.attributes.specs.StageTwoType.{reservedMemAttr}
+use Rattle.attributes.specs.Shareability.{reservedSH}
+use Rattle.attributes.specs.Order.{memoryOf, attributesOf, checkOf, checkIn}
+use Rattle.attributes.specs.declared.Attributes.{Attributes}
+use Rattle.attributes.specs.declared.Attributes.the-variants as attributes
+use Rattle.attributes.specs.declared.Check.the-variants as check
+use Rattle.attributes.specs.declared.Memory.{Memory}
+use Rattle.records.specs.declared.leaf.Stage1.{Stage1}
+use Rattle.records.specs.declared.leaf.Stage2.{Stage2}
+use Rattle.records.specs.declared.setup.Setup.{Setup}
+
+pub checks : (s : Setup) (one : Stage1) (two : Stage2) (fetch : Bool) → checkOf s one two ≡ checkIn (attributesOf s one two fetch)
+unfolding checkOf attributesOf
+checks s one two fetch = go (reservedByte s one) (reservedMemAttr s two) (reservedSH s one two) (memoryOf s one two fetch)
+  where
+    go : (a b c : Bool) (m : Memory)
+        → cond a (check.Refused 8) (cond b (check.Refused 8) (cond c (check.Refused 9) check.Passes))
+        ≡ checkIn (cond a (attributes.Refused 8) (cond b (attributes.Refused 8) (cond c (attributes.Refused 9) (attributes.Combined m))))
+    go true b c m = refl
+    go false true c m = refl
+    go false false true m = refl
+    go false false false m = refl
+
+-- where the check passes, every access of the leaf has its byte and SH
+pub passes : (s : Setup) (one : Stage1) (two : Stage2) (fetch : Bool) → checkOf s one two ≡ check.Passes
+    → attributesOf s one two fetch ≡ attributes.Combined (memoryOf s one two fetch)
+unfolding checkOf attributesOf
+passes s one two fetch e = go (reservedByte s one) (reservedMemAttr s two) (reservedSH s one two) (memoryOf s one two fetch) e
+  where
+    go : (a b c : Bool) (m : Memory)
+        → cond a (check.Refused 8) (cond b (check.Refused 8) (cond c (check.Refused 9) check.Passes)) ≡ check.Passes
+        → cond a (attributes.Refused 8) (cond b (attributes.Refused 8) (cond c (attributes.Refused 9) (attributes.Combined m)))
+        ≡ attributes.Combined m
+    go true b c m e = cc
+    go false true c m e = cc
+    go false false true m e = cc
+    go false false false m e = refl
+
+-- where it refuses, every access of the leaf is refused with its number
+pub refuses : (s : Setup) (one : Stage1) (two : Stage2) (fetch : Bool) (n : ℕ) → checkOf s one two ≡ check.Refused n
+    → attributesOf s one two fetch ≡ attributes.Refused n
+refuses s one two fetch n e = go (attributesOf s one two fetch) (sym (checks s one two fetch) ∙ e)
+  where
+    go : (x : Attributes) → checkIn x ≡ check.Refused n → x ≡ attributes.Refused n
+    go (attributes.Combined m) e = cc
+    go (attributes.Refused k) e = cc
