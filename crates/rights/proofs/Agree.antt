@@ -23,7 +23,7 @@ use Rattle.base.specs.Base.{baseOf}
 use Rattle.base.specs.declared.BaseAnswer.{BaseAnswer}
 use Rattle.base.specs.declared.BaseAnswer.the-variants as base
 use Rattle.base.specs.declared.Rights.{Rights as SixRights}
-use Rattle.rights.specs.Answers.{follow, faultOf, faultUnless, refuseIf}
+use Rattle.rights.specs.Answers.{follow, faultOf, faultUnless, refuseIf, permitted}
 use Rattle.rights.specs.Level.{collect, levelOf}
 use Rattle.rights.specs.Order.{dirty, baseAnswer, stage1Answer, stagesAnswer}
 use Rattle.rights.specs.Overlay.{three, levelIn, hasRight, bitOf, registerOf, slotRights, slotAnswer}
@@ -164,4 +164,55 @@ agree s d e t l =
       stage2-as (s .control .stage2) e l Execute,
     )
     (with-stage1 (s .control .overlay) (stage1Pass s d t) (slotAt (registerOf (s .por) l) (d .poindex)) (stage2Pass (s .control .stage2) e)
+    (cond (d .valid) AccessFlag Translation) (cond (e .valid) AccessFlag Translation) l)
+
+-- what stands where a level is refused
+abbrev whenRefused : LevelAnswer → LevelRights → LevelRights
+whenRefused (level.Rights r) x = none
+whenRefused (level.Refused n) x = x
+
+-- the accesses that are permitted on a level that is refused
+abbrev left : Answer → Answer → Answer → LevelRights
+left a b c = whenRefused (collect a b c) (three (permitted a) (permitted b) (permitted c))
+
+abbrev leftOf : (Bool → Answer) → List Bool → LevelRights
+leftOf y m =
+    left (answer (at m 0) (at m 3) (at m 4) (at m 5) (y (at m 8))) (answer (at m 1) (at m 3) (at m 4) (at m 6) (y (at m 9)))
+    (answer (at m 2) (at m 3) (at m 4) (at m 7) (y (at m 10)))
+
+left-passes : (r : LevelRights) (on : Bool) (v : ℕ) (t : Stage2Pass) (k : Kind) (l : Level)
+    → left
+    (follow (follow (faultUnless (r .read) 1 Permission) (slotAnswer on v Read)) (stage2As t (faultOf 2 k) l Read))
+    (follow (follow (faultUnless (r .write) 1 Permission) (slotAnswer on v Write)) (stage2As t (faultOf 2 k) l Write))
+    (follow (follow (faultUnless (r .execute) 1 Permission) (slotAnswer on v Execute)) (stage2As t (faultOf 2 k) l Execute))
+    ≡ none
+left-passes r on v (two.Granted g) k l = each (values r on v (levelIn g l)) (leftOf (λ b. faultUnless b 2 Permission)) (λ m. none) refl
+left-passes r on v two.Nothing k l = each (values r on v none) (leftOf (λ b. faultOf 2 k)) (λ m. none) refl
+left-passes r on v (two.Refused n) k l = each (values r on v none) (leftOf (λ b. Refused n)) (λ m. none) refl
+
+left-with-stage1 : (o : LevelBits) (x : Stage1Pass) (v : ℕ) (t : Stage2Pass) (j k : Kind) (l : Level)
+    → left (follow (stage1As o x v (faultOf 1 j) l Read) (stage2As t (faultOf 2 k) l Read))
+    (follow (stage1As o x v (faultOf 1 j) l Write) (stage2As t (faultOf 2 k) l Write))
+    (follow (stage1As o x v (faultOf 1 j) l Execute) (stage2As t (faultOf 2 k) l Execute))
+    ≡ none
+left-with-stage1 o (one.Granted b) v t j k l = left-passes (levelIn (b .rights) l) (bitOf o l && bitOf (b .overlay) l) v t k l
+left-with-stage1 o one.Nothing v t j k l = refl
+left-with-stage1 o (one.Refused n) v t j k l = refl
+
+-- on a level that is refused no access is permitted: at one level there is at most one refusal, and every access that the base
+-- grants, or that reaches stage 2, meets it
+pub none-left : (s : Setup) (d : Stage1) (e : Stage2) (t : Limits) (l : Level)
+    → left (stagesAnswer s d e t (accessOf l Read)) (stagesAnswer s d e t (accessOf l Write)) (stagesAnswer s d e t (accessOf l Execute))
+    ≡ none
+unfolding stagesAnswer
+none-left s d e t l =
+    rw (
+      stage1-as s d t l Read,
+      stage1-as s d t l Write,
+      stage1-as s d t l Execute,
+      stage2-as (s .control .stage2) e l Read,
+      stage2-as (s .control .stage2) e l Write,
+      stage2-as (s .control .stage2) e l Execute,
+    )
+    (left-with-stage1 (s .control .overlay) (stage1Pass s d t) (slotAt (registerOf (s .por) l) (d .poindex)) (stage2Pass (s .control .stage2) e)
     (cond (d .valid) AccessFlag Translation) (cond (e .valid) AccessFlag Translation) l)

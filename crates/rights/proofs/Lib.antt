@@ -1,4 +1,5 @@
 pub mod Agree
+pub mod Levels
 pub mod Ranges
 pub mod Steps
 pub mod Tables
