@@ -8,4 +8,4 @@ pub mod answer;
 pub mod checks;
 pub mod level;
 pub mod range;
-mod stages;
+pub mod stages;

@@ -1,0 +1,4 @@
+pub mod Agree
+pub mod Lists
+pub mod Steps
+pub mod Walks

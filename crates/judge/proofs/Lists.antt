@@ -1,0 +1,65 @@
+-- The list's answer, case by case. Assumes nothing.
+use mathlib.Core.Path.{_≡_, refl, sym, ap, _∙_}
+use mathlib.Core.List.{List, [], _∷_, _++_}
+use mathlib.Core.Logic.{⊎-elim}
+use Prim.Native.Nat.{ℕ, _/_, _%_, _≤_, _<_}
+use native.Mathlib.Omega.{arith}
+use lib.ListN.{length, take, drop}
+use lib.Seq.{take-length}
+use borrow.Author.Tests.{eq-eqb, ne-eqb, le-leb, lt-leb}
+use types.Run.{OneOf}
+use denote.Enum.Declared.{tagOf}
+use Rattle.records.specs.MapFile.{over}
+use Rattle.records.specs.Setup.{readSetup}
+use Rattle.records.specs.declared.setup.Setup.{Setup}
+use Rattle.records.specs.declared.setup.SetupRead.{SetupRead}
+use Rattle.rights.specs.Checks.{setupCheck}
+use Rattle.rights.specs.declared.answer.Answer.{Answer}
+use Rattle.rights.specs.declared.answer.Answer.the-variants as answer
+use Rattle.rights.proofs.answer.Answer.{the-type}
+use Rattle.judge.proofs.Agree.{agree}
+use Rattle.judge.proofs.Walks.{same-walk}
+use Rattle.judge.specs.LeafRights.{leafRights}
+use Rattle.judge.specs.List.{leafAt, Walk, walk, Result, refuse, finish, leavesOf, numberOf, afterCheck, withSetup, listOf}
+use Rattle.judge.specs.Walked.{passAt}
+
+-- the list's answer by what was read of the setup
+pub reads-as : (b ls o : List ℕ) (x : SetupRead) → readSetup b ≡ x → listOf b ls o ≡ withSetup x ls o
+unfolding listOf
+reads-as b ls o x e = rw e
+
+-- an answer that is the list's has its parts
+pub met : (b ls o : List ℕ) (r : Result) → listOf b ls o ≡ r → (r .answer ≡ listOf b ls o .answer) × (r .out ≡ listOf b ls o .out)
+met b ls o r e = (ap (λ (x : Result). x .answer) (sym e), ap (λ (x : Result). x .out) (sym e))
+
+-- a setup that is refused
+pub refused-setup : (x : Answer) (r : Result) (o : List ℕ) → OneOf (1 ∷ 2 ∷ []) (tagOf the-type x) → afterCheck x r o ≡ refuse (numberOf x) 0 o
+refused-setup answer.Permitted r o h = ⊎-elim (λ e. absurd (omega (arith, e))) (λ e. absurd (omega (arith, e))) h
+refused-setup (answer.Fault f) r o h = refl
+refused-setup (answer.Refused n) r o h = refl
+
+module _ (s : Setup) (ls o : List ℕ) where
+  pub odd : (length ls % 18 ≡ 0 → ⊥) → leavesOf s ls o ≡ refuse 11 0 o
+  unfolding leavesOf
+  odd h = rw (ne-eqb _ _ h)
+
+  module _ (even : length ls % 18 ≡ 0) where
+    pub long : 2048 < length ls / 18 → leavesOf s ls o ≡ refuse 11 0 o
+    unfolding leavesOf
+    long h = rw (eq-eqb _ _ even, lt-leb _ _ h)
+
+    pub short : length ls / 18 ≤ 2048 → length o < length ls / 18 → leavesOf s ls o ≡ refuse 11 0 o
+    unfolding leavesOf
+    short h k = rw (eq-eqb _ _ even, le-leb _ _ h, lt-leb _ _ k)
+
+    -- the leaves in order: the walk that the code makes, where no check of the setup refuses
+    pub goes : setupCheck (s .control) ≡ answer.Permitted → length ls / 18 ≤ 2048 → length ls / 18 ≤ length o
+        → (w : Walk) → walk (passAt s ls) 0 (length ls / 18) ≡ w → leavesOf s ls o ≡ finish w (length ls / 18) o
+    unfolding leavesOf passAt
+    goes ok h k w e =
+        rw (eq-eqb _ _ even, le-leb _ _ h, le-leb _ _ k)
+        (ap (λ (x : Walk). finish x (length ls / 18) o) (sym (same-walk (passAt s ls) (λ (i : ℕ). leafRights s (leafAt ls i)) (λ i. agree s (leafAt ls i) ok) 0 (length ls / 18)) ∙ e))
+
+-- what `bytes::copy` leaves in its destination
+pub copied : (x a : List ℕ) → take (length x) x ++ drop (length x) a ≡ over x a
+copied x a = rw take-length

@@ -1,0 +1,25 @@
+-- An access that is not permitted, and a leaf that its check refuses, stand before what follows. Assumes nothing.
+use mathlib.Core.Path.{_≡_, refl}
+use mathlib.Core.Logic.{⊎-elim}
+use mathlib.Core.List.{[], _∷_}
+use native.Mathlib.Omega.{arith}
+use types.Run.{OneOf}
+use denote.Enum.Declared.{tagOf}
+use Rattle.rights.specs.declared.answer.Answer.{Answer}
+use Rattle.rights.specs.declared.answer.Answer.the-variants.{Permitted, Fault, Refused}
+use Rattle.rights.proofs.answer.Answer.{the-type}
+use Rattle.judge.specs.Judge.{stopped, after}
+use Rattle.judge.specs.Pass.{afterCheck}
+use Rattle.judge.specs.declared.judge.Judgement.{Judgement}
+use Rattle.judge.specs.declared.leaf.LeafRights.{LeafRights}
+use Rattle.judge.specs.declared.leaf.LeafRights.the-variants.{Rights}
+
+pub stops : (x : Answer) (j : Judgement) → OneOf (1 ∷ 2 ∷ []) (tagOf the-type x) → stopped x ≡ after x j
+stops Permitted j h = ⊎-elim (λ e. absurd (omega (arith, e))) (λ e. absurd (omega (arith, e))) h
+stops (Fault f) j h = refl
+stops (Refused n) j h = refl
+
+pub refuses : (x : Answer) (r : LeafRights) → OneOf (1 ∷ 2 ∷ []) (tagOf the-type x) → afterCheck x (Rights 0) ≡ afterCheck x r
+refuses Permitted r h = ⊎-elim (λ e. absurd (omega (arith, e))) (λ e. absurd (omega (arith, e))) h
+refuses (Fault f) r h = refl
+refuses (Refused n) r h = refl

@@ -1,0 +1,56 @@
+-- `judge::judge_access` meets its contract: 13 for lengths before all else. Assumes nothing.
+use mathlib.Core.Path.{sym, ap, _∙_}
+use Rattle.judge.specs.Judge.{judgeOf}
+use Rattle.judge.specs.declared.judge.Judgement.the-variants.{Refused}
+use Rattle.records.proofs.Lengths.{setup-13, leaf-13}
+use borrow.Author.Needs.{needs}
+use Rattle.judge.proofs.judge.judge_access.Statement.{statement}
+use Rattle.judge.proofs.judge.judge_access.Tie as tie
+
+read-setup-requires : tie.Need-read-setup-requires
+read-setup-requires c κs = search needs
+
+enum-known-s : tie.Need-enum-known-s
+enum-known-s c = search needs
+
+enum-told : tie.Need-enum-told
+enum-told c = search needs
+
+returns : tie.Need-returns
+unfolding judgeOf
+returns c = rw (← (c .before .before .read-setup .ensures), c .enum-told .given .1) (ap Refused (sym (setup-13 _ _ (sym (c .before .before .read-setup .ensures) ∙ c .enum-told .given .1))))
+
+read-leaf-requires : tie.Need-read-leaf-requires
+read-leaf-requires c κs = search needs
+
+enum-known-l : tie.Need-enum-known-l
+enum-known-l c = search needs
+
+enum-told-2 : tie.Need-enum-told-2
+enum-told-2 c = search needs
+
+returns-2 : tie.Need-returns-2
+unfolding judgeOf
+returns-2 c = rw (← (c .before .before .before .before .before .before .read-setup .ensures), c .before .before .before .before .s .given .1, ← (c .before .before .read-leaf .ensures), c .enum-told2 .given .1) (ap Refused (sym (leaf-13 _ _ (sym (c .before .before .read-leaf .ensures) ∙ c .enum-told2 .given .1))))
+
+judge-read-requires : tie.Need-judge-read-requires
+judge-read-requires c κs = search needs
+
+returns-3 : tie.Need-returns-3
+unfolding judgeOf
+returns-3 c = rw (← (c .before .before .before .before .before .before .before .before .read-setup .ensures), c .before .before .before .before .before .before .s .given .1, ← (c .before .before .before .before .read-leaf .ensures), c .before .before .l .given .1, c .judge-read .ensures)
+
+pub judge-access-spec : {M : Type 1} → statement M
+judge-access-spec =
+    tie.close
+    (tie.spec
+    read-setup-requires
+    enum-known-s
+    enum-told
+    returns
+    read-leaf-requires
+    enum-known-l
+    enum-told-2
+    returns-2
+    judge-read-requires
+    returns-3)

@@ -1,0 +1,5 @@
+pub mod Judge
+pub mod LeafRights
+pub mod Pass
+pub mod List
+pub mod Walked
