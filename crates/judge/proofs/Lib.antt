@@ -1,4 +1,5 @@
 pub mod Agree
+pub mod Cases
 pub mod Lists
 pub mod Steps
 pub mod Walks

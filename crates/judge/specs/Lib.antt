@@ -3,3 +3,4 @@ pub mod LeafRights
 pub mod Pass
 pub mod List
 pub mod Walked
+pub mod Cases
