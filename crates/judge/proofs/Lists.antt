@@ -1,15 +1,13 @@
 -- The list's answer, case by case. Assumes nothing.
 use mathlib.Core.Path.{_≡_, refl, sym, ap, _∙_}
-use mathlib.Core.List.{List, [], _∷_, _++_}
+use mathlib.Core.List.{List, [], _∷_}
 use mathlib.Core.Logic.{⊎-elim}
 use Prim.Native.Nat.{ℕ, _/_, _%_, _≤_, _<_}
 use native.Mathlib.Omega.{arith}
-use lib.ListN.{length, take, drop}
-use lib.Seq.{take-length}
+use lib.ListN.{length}
 use borrow.Author.Tests.{eq-eqb, ne-eqb, le-leb, lt-leb}
 use types.Run.{OneOf}
 use denote.Enum.Declared.{tagOf}
-use Rattle.records.specs.MapFile.{over}
 use Rattle.records.specs.Setup.{readSetup}
 use Rattle.records.specs.declared.setup.Setup.{Setup}
 use Rattle.records.specs.declared.setup.SetupRead.{SetupRead}
@@ -59,7 +57,3 @@ module _ (s : Setup) (ls o : List ℕ) where
     goes ok h k w e =
         rw (eq-eqb _ _ even, le-leb _ _ h, le-leb _ _ k)
         (ap (λ (x : Walk). finish x (length ls / 18) o) (sym (same-walk (passAt s ls) (λ (i : ℕ). leafRights s (leafAt ls i)) (λ i. agree s (leafAt ls i) ok) 0 (length ls / 18)) ∙ e))
-
--- what `bytes::copy` leaves in its destination
-pub copied : (x a : List ℕ) → take (length x) x ++ drop (length x) a ≡ over x a
-copied x a = rw take-length

@@ -10,7 +10,7 @@ use lib.Dec.{leb}
 use lib.ListN.{length, take, drop, length-append, length-take, length-drop, drop-of-length-le}
 use lib.Seq.{take-at, take-length, drop-drop, length-take-le}
 use borrow.Author.Tests.{leb-true}
-use Rattle.records.specs.MapFile.{beginsWith, value, rest, Leaves, leaves, illFormed, after, leavesOf, fileOf, refuse, resultOf, readFile}
+use Rattle.records.specs.MapFile.{beginsWith, value, rest, Leaves, leaves, illFormed, after, leavesOf, fileOf, over, refuse, resultOf, readFile}
 
 pub after-none : (x : Leaves) → after 0 [] x ≡ x
 after-none (leaves m c) = rw zero-add
@@ -75,6 +75,10 @@ module _ (s : List ℕ) (k : ℕ) where
   one-more (suc m) n b c z h e q =
       let p : suc m - 1 ≡ m = omega arith in
       rw (next m h, e, after-after, q, p, drop-drop 21 k s)
+
+-- what `bytes::copy` leaves in its destination
+pub copied : (x a : List ℕ) → take (length x) x ++ drop (length x) a ≡ over x a
+copied x a = rw take-length
 
 -- x in place from index k on, behind the first k elements of v
 pub placed : (k m : ℕ) (v x y p : List ℕ) → k ≤ length v → length x ≡ m

@@ -23,7 +23,7 @@ use Rattle.base.specs.Base.{baseOf}
 use Rattle.base.specs.declared.BaseAnswer.{BaseAnswer}
 use Rattle.base.specs.declared.BaseAnswer.the-variants as base
 use Rattle.base.specs.declared.Rights.{Rights as SixRights}
-use Rattle.rights.specs.Answers.{follow, faultOf, faultUnless, refuseIf, permitted}
+use Rattle.rights.specs.Answers.{follow, faultOf, faultUnless, refuseIf, descriptorAnswer, permitted}
 use Rattle.rights.specs.Level.{collect, levelOf}
 use Rattle.rights.specs.Order.{dirty, baseAnswer, stage1Answer, stagesAnswer}
 use Rattle.rights.specs.Overlay.{three, levelIn, hasRight, bitOf, registerOf, slotRights, slotAnswer}
@@ -78,7 +78,7 @@ unfolding stage2Answer stage2Pass
 stage2-as on d l r = go on (d .valid) (d .af) (d .bit51)
   where
     go : (o v f b : Bool)
-        → cond o (follow (faultUnless v 2 Translation) (follow (faultUnless f 2 AccessFlag) (follow (refuseIf b 7) (faultUnless (hasRight (levelIn (stage2Rights d) l) r) 2 Permission)))) Permitted
+        → cond o (follow (descriptorAnswer 2 v f b) (faultUnless (hasRight (levelIn (stage2Rights d) l) r) 2 Permission)) Permitted
         ≡ stage2As (cond o (cond (v && f) (cond b (two.Refused 7) (two.Granted (stage2Rights d))) two.Nothing) (two.Granted everything)) (firstFault 2 v) l r
     go false v f b = rw (has-everything l r)
     go true false f b = refl
@@ -93,7 +93,7 @@ unfolding stage1Answer stage1Pass
 stage1-as s d t l r = go (s .control .stage1) (d .valid) (d .af) (dirty (s .control) d) (baseOf s d t)
   where
     go : (o v f b : Bool) (x : BaseAnswer)
-        → cond o (follow (faultUnless v 1 Translation) (follow (faultUnless f 1 AccessFlag) (follow (refuseIf b 7) (baseAnswer s d (accessOf l r) x)))) Permitted
+        → cond o (follow (descriptorAnswer 1 v f b) (baseAnswer s d (accessOf l r) x)) Permitted
         ≡ stage1As (s .control .overlay)
         (cond o (cond (v && f) (cond b (one.Refused 7) (fromBase x)) one.Nothing) (one.Granted (record { rights = everything; overlay = record { privileged = false; unprivileged = false } })))
         (slotAt (registerOf (s .por) l) (d .poindex)) (firstFault 1 v) l r

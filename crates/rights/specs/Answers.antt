@@ -2,6 +2,7 @@
 use Prim.Native.Nat.{ℕ}
 use mathlib.Core.Bool.{Bool, true, false, cond}
 use Rattle.rights.specs.declared.answer.Kind.{Kind}
+use Rattle.rights.specs.declared.answer.Kind.the-variants.{Translation, AccessFlag}
 use Rattle.rights.specs.declared.answer.Answer.{Answer}
 use Rattle.rights.specs.declared.answer.Answer.the-variants.{Permitted, Fault, Refused}
 
@@ -26,3 +27,8 @@ abbrev pub permitted : Answer → Bool
 permitted Permitted = true
 permitted (Fault f) = false
 permitted (Refused n) = false
+
+-- the first steps of a stage: Translation fault (valid clear), Access flag fault (AF clear), 7 for dirty state
+abbrev pub descriptorAnswer : ℕ → Bool → Bool → Bool → Answer
+descriptorAnswer s valid af dirty =
+    follow (faultUnless valid s Translation) (follow (faultUnless af s AccessFlag) (refuseIf dirty 7))

@@ -13,13 +13,13 @@ use Rattle.base.specs.Base.{baseOf}
 use Rattle.base.specs.declared.Base.{Base}
 use Rattle.base.specs.declared.BaseAnswer.{BaseAnswer}
 use Rattle.base.specs.declared.BaseAnswer.the-variants as base
-use Rattle.rights.specs.Answers.{follow, faultUnless, refuseIf}
+use Rattle.rights.specs.Answers.{follow, faultUnless, descriptorAnswer}
 use Rattle.rights.specs.Checks.{setupCheck, accessCheck, leafCheck}
 use Rattle.rights.specs.Overlay.{has, bitOf, registerOf, slotAnswer}
 use Rattle.rights.specs.Stage2.{stage2Answer}
 use Rattle.rights.specs.declared.answer.Answer.{Answer}
 use Rattle.rights.specs.declared.answer.Answer.the-variants.{Permitted, Refused}
-use Rattle.rights.specs.declared.answer.Kind.the-variants.{Translation, AccessFlag, Permission}
+use Rattle.rights.specs.declared.answer.Kind.the-variants.{Permission}
 use Rattle.rights.specs.declared.checks.AccessCheck.{AccessCheck}
 use Rattle.rights.specs.declared.checks.AccessCheck.the-variants as access
 
@@ -39,13 +39,10 @@ baseAnswer s d a (base.Granted b) =
     follow (faultUnless (has (b .rights) a) 1 Permission) (overlayAnswer s d b a)
 baseAnswer s d a (base.Refused n) = Refused n
 
--- stage 1: Translation fault (valid clear), Access flag fault (AF clear), 7 for dirty state, then the base codes and what follows
+-- stage 1: Translation fault, Access flag fault, 7 for dirty state, then the base codes and what follows
 unfoldable pub stage1Answer : Setup → Stage1 → Limits → Access → Answer
 stage1Answer s d t a =
-    follow (faultUnless (d .valid) 1 Translation)
-    (follow (faultUnless (d .af) 1 AccessFlag)
-    (follow (refuseIf (dirty (s .control) d) 7)
-    (baseAnswer s d a (baseOf s d t))))
+    follow (descriptorAnswer 1 (d .valid) (d .af) (dirty (s .control) d)) (baseAnswer s d a (baseOf s d t))
 
 -- stage 1, if on, then stage 2, if on. A stage that is off permits everything, and its descriptor is ignored
 unfoldable pub stagesAnswer : Setup → Stage1 → Stage2 → Limits → Access → Answer

@@ -7,10 +7,10 @@ use Rattle.records.specs.declared.access.Access.{Access}
 use Rattle.records.specs.declared.leaf.Stage2.{Stage2}
 use Rattle.base.specs.Direct.{six}
 use Rattle.base.specs.declared.Rights.{Rights}
-use Rattle.rights.specs.Answers.{follow, faultUnless, refuseIf}
+use Rattle.rights.specs.Answers.{follow, faultUnless, descriptorAnswer}
 use Rattle.rights.specs.Overlay.{has}
 use Rattle.rights.specs.declared.answer.Answer.{Answer}
-use Rattle.rights.specs.declared.answer.Kind.the-variants.{Translation, AccessFlag, Permission}
+use Rattle.rights.specs.declared.answer.Kind.the-variants.{Permission}
 
 -- XN 00: px ux; 01: ux; 10: neither; 11: px
 unfoldable pub xnPx : ℕ → Bool
@@ -23,10 +23,6 @@ xnUx xn = getD (true ∷ true ∷ false ∷ false ∷ []) xn false
 unfoldable pub stage2Rights : Stage2 → Rights
 stage2Rights d = six (d .read) (d .write) (xnPx (d .xn)) (d .read) (d .write) (xnUx (d .xn))
 
--- Translation fault (valid clear), Access flag fault (AF clear), 7 for dirty state (bit 51 set), Permission fault
+-- Translation fault, Access flag fault, 7 for dirty state (bit 51 set), Permission fault
 unfoldable pub stage2Answer : Stage2 → Access → Answer
-stage2Answer d a =
-    follow (faultUnless (d .valid) 2 Translation)
-    (follow (faultUnless (d .af) 2 AccessFlag)
-    (follow (refuseIf (d .bit51) 7)
-    (faultUnless (has (stage2Rights d) a) 2 Permission)))
+stage2Answer d a = follow (descriptorAnswer 2 (d .valid) (d .af) (d .bit51)) (faultUnless (has (stage2Rights d) a) 2 Permission)

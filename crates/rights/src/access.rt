@@ -1,6 +1,7 @@
 // One access, step by step: the first fault or refusal is the answer.
 ghost use mathlib.Core.Path.{_≡_};
 ghost use mathlib.Core.Bool.{cond};
+ghost use Rattle.rights.specs.Answers.{descriptorAnswer};
 ghost use Rattle.rights.specs.Overlay.{has, slotAnswer};
 ghost use Rattle.rights.specs.Stage2.{stage2Answer};
 ghost use Rattle.rights.specs.Order.{dirty, overlayAnswer, baseAnswer, stage1Answer, stagesAnswer, leafAnswer, accessRefusal, rightsAnswer};
@@ -91,21 +92,28 @@ pub(crate) fn dirty_state(c: Control, d: Stage1) -> bool
     d.bit51
 }
 
-fn stage1_answer(s: Setup, d: Stage1, t: Limits, a: Access) -> Answer
-    ensures { λ x. ⌜ x ≡ stage1Answer s d t a ⌝ }
+// The first steps of a stage.
+fn descriptor_answer(stage: u8, valid: bool, af: bool, dirty: bool) -> Answer
+    ensures { λ x. ⌜ x ≡ descriptorAnswer stage valid af dirty ⌝ }
 {
-    let valid = fault_unless(d.valid, 1, Kind::Translation);
-    let Answer::Permitted = valid else {
-        return valid;
+    let translation = fault_unless(valid, stage, Kind::Translation);
+    let Answer::Permitted = translation else {
+        return translation;
     };
-    let flag = fault_unless(d.af, 1, Kind::AccessFlag);
+    let flag = fault_unless(af, stage, Kind::AccessFlag);
     let Answer::Permitted = flag else {
         return flag;
     };
+    refuse_if(dirty, 7)
+}
+
+fn stage1_answer(s: Setup, d: Stage1, t: Limits, a: Access) -> Answer
+    ensures { λ x. ⌜ x ≡ stage1Answer s d t a ⌝ }
+{
     let c = s.control;
-    let clean = refuse_if(dirty_state(c, d), 7);
-    let Answer::Permitted = clean else {
-        return clean;
+    let first = descriptor_answer(1, d.valid, d.af, dirty_state(c, d));
+    let Answer::Permitted = first else {
+        return first;
     };
     base_answer(s, d, a, base::base_rights(s, d, t))
 }
@@ -113,17 +121,9 @@ fn stage1_answer(s: Setup, d: Stage1, t: Limits, a: Access) -> Answer
 fn stage2_answer(d: Stage2, a: Access) -> Answer
     ensures { λ x. ⌜ x ≡ stage2Answer d a ⌝ }
 {
-    let valid = fault_unless(d.valid, 2, Kind::Translation);
-    let Answer::Permitted = valid else {
-        return valid;
-    };
-    let flag = fault_unless(d.af, 2, Kind::AccessFlag);
-    let Answer::Permitted = flag else {
-        return flag;
-    };
-    let clean = refuse_if(d.bit51, 7);
-    let Answer::Permitted = clean else {
-        return clean;
+    let first = descriptor_answer(2, d.valid, d.af, d.bit51);
+    let Answer::Permitted = first else {
+        return first;
     };
     fault_unless(has(stage2_rights(d), a), 2, Kind::Permission)
 }

@@ -6,13 +6,14 @@ use native.Mathlib.Omega.{arith}
 use lib.ListN.{length, take, length-replicate}
 use lib.Seq.{length-take-le}
 use denote.Ref.{now}
+use Rattle.records.proofs.Fields.{copied}
 use Rattle.records.proofs.Lengths.{setup-13}
 use Rattle.records.specs.declared.setup.Setup.{Setup}
 use Rattle.rights.specs.Checks.{setupCheck}
 use Rattle.rights.specs.declared.answer.Answer.the-variants as answer
 use Rattle.judge.specs.List.{Walk, refuse, finish, leavesOf, afterCheck, listOf}
 use Rattle.judge.specs.Walked.{walkIn, refusedOf}
-use Rattle.judge.proofs.Lists.{reads-as, met, refused-setup, odd, long, short, goes, copied}
+use Rattle.judge.proofs.Lists.{reads-as, met, refused-setup, odd, long, short, goes}
 use borrow.Author.Needs.{needs}
 use Rattle.judge.proofs.list.list_rights.Statement.{statement}
 use Rattle.judge.proofs.list.list_rights.Tie as tie

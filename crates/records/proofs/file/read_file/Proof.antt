@@ -1,23 +1,19 @@
 -- `file::read_file` meets its contract: what `leaf_fields` found is what the file holds, and each test picks its case of `resultOf`.
 -- Assumes nothing.
 use mathlib.Core.Path.{_≡_, refl, sym, ap, _∙_}
-use mathlib.Core.List.{List, _++_}
+use mathlib.Core.List.{List}
 use Prim.Native.Nat.{ℕ, _≤_, _*_}
 use native.Mathlib.Omega.{arith}
 use lib.ListN.{length, take, drop, length-take, length-drop, length-replicate}
-use lib.Seq.{take-length, length-take-le}
+use lib.Seq.{length-take-le}
 use denote.Ref.{now}
 use borrow.Author.Tests.{le-leb, lt-leb}
 use Rattle.records.specs.Fields.{leavesIn}
-use Rattle.records.specs.MapFile.{Leaves, leaves, value, readFile, resultOf, over}
-use Rattle.records.proofs.Fields.{whole, counted, read-as, read-other}
+use Rattle.records.specs.MapFile.{Leaves, leaves, value, readFile, resultOf}
+use Rattle.records.proofs.Fields.{whole, counted, read-as, read-other, copied}
 use borrow.Author.Needs.{needs}
 use Rattle.records.proofs.file.read_file.Statement.{statement}
 use Rattle.records.proofs.file.read_file.Tie as tie
-
--- what `bytes::copy` leaves in its destination
-copied : (x a : List ℕ) → take (length x) x ++ drop (length x) a ≡ over x a
-copied x a = rw take-length
 
 -- the file and what the lent buffers held
 abbrev start : tie.After-leaf-fields → tie.Start
