@@ -1,6 +1,8 @@
 -- The refusal of `checkOf` is the one that the attribute steps of any access meet: it does not depend on whether the access executes.
 -- For those who check a leaf once and judge its accesses. Assumes nothing.
 use mathlib.Core.Path.{_≡_, refl, sym, _∙_}
+use mathlib.Core.Logic.{_⊎_, inl, inr}
+use native.Mathlib.Omega.{arith}
 use mathlib.Core.Bool.{Bool, true, false, cond}
 use Prim.Native.Nat.{ℕ}
 use Rattle.attributes.specs.Mair.{reservedByte}
@@ -50,3 +52,18 @@ refuses s one two fetch n e = go (attributesOf s one two fetch) (sym (checks s o
     go : (x : Attributes) → checkIn x ≡ check.Refused n → x ≡ attributes.Refused n
     go (attributes.Combined m) e = cc
     go (attributes.Refused k) e = cc
+
+-- the attribute steps refuse with 8 or 9
+pub eight-or-nine : (s : Setup) (one : Stage1) (two : Stage2) (fetch : Bool) (n : ℕ) → attributesOf s one two fetch ≡ attributes.Refused n
+    → (n ≡ 8) ⊎ (n ≡ 9)
+unfolding attributesOf
+eight-or-nine s one two fetch n e = go (reservedByte s one) (reservedMemAttr s two) (reservedSH s one two) (memoryOf s one two fetch) e
+  where
+    go : (a b c : Bool) (m : Memory)
+        → cond a (attributes.Refused 8) (cond b (attributes.Refused 8) (cond c (attributes.Refused 9) (attributes.Combined m)))
+        ≡ attributes.Refused n
+        → (n ≡ 8) ⊎ (n ≡ 9)
+    go true b c m e = inl (cc)
+    go false true c m e = inl (cc)
+    go false false true m e = inr (cc)
+    go false false false m e = let z : _≡_ {A = ℕ} 0 1 = cc in absurd (omega arith)

@@ -16,19 +16,28 @@ use Rattle.rights.specs.declared.answer.Answer.{Answer}
 use Rattle.rights.specs.declared.answer.Answer.the-variants as answer
 use Rattle.rights.proofs.answer.Answer.{the-type}
 use Rattle.judge.proofs.Agree.{agree}
+use Rattle.judge.proofs.Demands.{list-met}
 use Rattle.judge.proofs.Walks.{same-walk}
+use Rattle.judge.specs.Demands.{ListDemands}
 use Rattle.judge.specs.LeafRights.{leafRights}
 use Rattle.judge.specs.List.{leafAt, Walk, walk, Result, refuse, finish, leavesOf, numberOf, afterCheck, withSetup, listOf}
 use Rattle.judge.specs.Walked.{passAt}
+use Rattle.judge.specs.declared.list.Listed.{Listed}
 
 -- the list's answer by what was read of the setup
 pub reads-as : (b ls o : List ℕ) (x : SetupRead) → readSetup b ≡ x → listOf b ls o ≡ withSetup x ls o
 unfolding listOf
 reads-as b ls o x e = rw e
 
--- an answer that is the list's has its parts
-pub met : (b ls o : List ℕ) (r : Result) → listOf b ls o ≡ r → (r .answer ≡ listOf b ls o .answer) × (r .out ≡ listOf b ls o .out)
-met b ls o r e = (ap (λ (x : Result). x .answer) (sym e), ap (λ (x : Result). x .out) (sym e))
+-- an answer and an output that are the list's meet its contract
+pub met : (b ls o : List ℕ) (r : Listed) (p : List ℕ) → r ≡ listOf b ls o .answer → p ≡ listOf b ls o .out
+    → (r ≡ listOf b ls o .answer) × ((p ≡ listOf b ls o .out) × ListDemands b ls o r p)
+met b ls o r p e f = (e, (f, list-met b ls o r p (e, f)))
+
+-- the same where the list's result is known
+pub result : (b ls o : List ℕ) (x : Result) → listOf b ls o ≡ x
+    → (x .answer ≡ listOf b ls o .answer) × ((x .out ≡ listOf b ls o .out) × ListDemands b ls o (x .answer) (x .out))
+result b ls o x e = met b ls o (x .answer) (x .out) (ap (λ (y : Result). y .answer) (sym e)) (ap (λ (y : Result). y .out) (sym e))
 
 -- a setup that is refused
 pub refused-setup : (x : Answer) (r : Result) (o : List ℕ) → OneOf (1 ∷ 2 ∷ []) (tagOf the-type x) → afterCheck x r o ≡ refuse (numberOf x) 0 o

@@ -1,14 +1,19 @@
 -- An access that is not permitted, and a leaf that its check refuses, stand before what follows. Assumes nothing.
 use mathlib.Core.Path.{_≡_, refl}
 use mathlib.Core.Logic.{⊎-elim}
-use mathlib.Core.List.{[], _∷_}
+use mathlib.Core.List.{List, [], _∷_}
+use Prim.Native.Nat.{ℕ}
 use native.Mathlib.Omega.{arith}
 use types.Run.{OneOf}
 use denote.Enum.Declared.{tagOf}
+use Rattle.records.specs.Leaf.{readLeaf}
+use Rattle.records.specs.Setup.{readSetup}
+use Rattle.records.specs.declared.leaf.LeafRead.{LeafRead}
+use Rattle.records.specs.declared.setup.SetupRead.{SetupRead}
 use Rattle.rights.specs.declared.answer.Answer.{Answer}
 use Rattle.rights.specs.declared.answer.Answer.the-variants.{Permitted, Fault, Refused}
 use Rattle.rights.proofs.answer.Answer.{the-type}
-use Rattle.judge.specs.Judge.{stopped, after}
+use Rattle.judge.specs.Judge.{stopped, after, withSetup, judgeOf}
 use Rattle.judge.specs.Pass.{afterCheck}
 use Rattle.judge.specs.declared.judge.Judgement.{Judgement}
 use Rattle.judge.specs.declared.leaf.LeafRights.{LeafRights}
@@ -23,3 +28,8 @@ pub refuses : (x : Answer) (r : LeafRights) → OneOf (1 ∷ 2 ∷ []) (tagOf th
 refuses Permitted r h = ⊎-elim (λ e. absurd (omega (arith, e))) (λ e. absurd (omega (arith, e))) h
 refuses (Fault f) r h = refl
 refuses (Refused n) r h = refl
+
+-- the judgement by what was read of the setup and the leaf
+pub judge-as : (b c : List ℕ) (n : ℕ) (x : SetupRead) (y : LeafRead) → readSetup b ≡ x → readLeaf c ≡ y → judgeOf b c n ≡ withSetup y n x
+unfolding judgeOf
+judge-as b c n x y p q = rw (p, q)

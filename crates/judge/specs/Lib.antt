@@ -4,3 +4,5 @@ pub mod Pass
 pub mod List
 pub mod Walked
 pub mod Cases
+pub mod Answers
+pub mod Demands

@@ -1,5 +1,6 @@
 // One access of a leaf.
 ghost use mathlib.Core.Path.{_≡_};
+ghost use Rattle.judge.specs.Demands.{JudgeDemands};
 ghost use Rattle.judge.specs.Judge.{stopped, combined, judged, judgeOf};
 use attributes::Attributes;
 use attributes::Memory;
@@ -53,7 +54,8 @@ fn judge_read(s: Setup, l: Leaf, n: u64) -> Judgement
 
 // The judgement of an access: 13 for lengths before all else, then 1 to 5, stage 1, stage 2, 8, 8, 9, the first that applies.
 pub fn judge_access(setup: &[u8], leaf: &[u8], access: u64) -> Judgement
-    ensures { λ r. ⌜ r ≡ judgeOf (now (setup .entry)) (now (leaf .entry)) access ⌝ }
+    ensures answer { λ r. ⌜ r ≡ judgeOf (now (setup .entry)) (now (leaf .entry)) access ⌝ }
+    ensures demands { λ r. ⌜ JudgeDemands (now (setup .entry)) (now (leaf .entry)) access r ⌝ }
 {
     let SetupRead::Read(s) = records::setup::read_setup(setup) else {
         return Judgement::Refused(13);

@@ -2,6 +2,7 @@
 ghost use mathlib.Core.Path.{_≡_};
 ghost use Prim.Native.Nat.{_+_, _*_, _≤_};
 ghost use lib.ListN.{length};
+ghost use Rattle.judge.specs.Demands.{ListDemands};
 ghost use Rattle.judge.specs.List.{walk, numberOf, listOf};
 ghost use Rattle.judge.specs.Walked.{passAt, walkIn, refusedOf};
 use crate::leaf::LeafRights;
@@ -80,6 +81,7 @@ fn refused(w: Walked) -> Listed
 pub fn list_rights(setup: &[u8], leaves: &[u8], out: &mut [u8]) -> Listed
     ensures answer { λ r. ⌜ r ≡ listOf (now (setup .entry)) (now (leaves .entry)) (now (out .entry)) .answer ⌝ }
     ensures out { λ r. ⌜ now (out .exit) ≡ listOf (now (setup .entry)) (now (leaves .entry)) (now (out .entry)) .out ⌝ }
+    ensures demands { λ r. ⌜ ListDemands (now (setup .entry)) (now (leaves .entry)) (now (out .entry)) r (now (out .exit)) ⌝ }
 {
     let SetupRead::Read(s) = records::setup::read_setup(setup) else {
         return Listed::Refused {

@@ -11,9 +11,9 @@ use Rattle.records.proofs.Lengths.{setup-13}
 use Rattle.records.specs.declared.setup.Setup.{Setup}
 use Rattle.rights.specs.Checks.{setupCheck}
 use Rattle.rights.specs.declared.answer.Answer.the-variants as answer
-use Rattle.judge.specs.List.{Walk, refuse, finish, leavesOf, afterCheck, listOf}
+use Rattle.judge.specs.List.{Walk, Result, refuse, finish, leavesOf, afterCheck, listOf}
 use Rattle.judge.specs.Walked.{walkIn, refusedOf}
-use Rattle.judge.proofs.Lists.{reads-as, met, refused-setup, odd, long, short, goes}
+use Rattle.judge.proofs.Lists.{reads-as, met, result, refused-setup, odd, long, short, goes}
 use borrow.Author.Needs.{needs}
 use Rattle.judge.proofs.list.list_rights.Statement.{statement}
 use Rattle.judge.proofs.list.list_rights.Tie as tie
@@ -64,7 +64,7 @@ enum-told c = search needs
 returns : tie.Need-returns
 returns c = let q = sym (c .before .before .read-setup .ensures) ∙ c .enum-told .given .1 in
     let o = now (c .before .before .before .before .before .before .args .out) in
-    met _ _ _ (refuse 13 0 o) (reads-as _ _ _ _ q ∙ ap (λ (k : ℕ). refuse k 0 o) (setup-13 _ _ q))
+    result _ _ _ (refuse 13 0 o) (reads-as _ _ _ _ q ∙ ap (λ (k : ℕ). refuse k 0 o) (setup-13 _ _ q))
 
 check-setup-requires : tie.Need-check-setup-requires
 check-setup-requires c κs = search needs
@@ -77,18 +77,18 @@ number-of-requires c κs = search needs
 
 returns-2 : tie.Need-returns-2
 returns-2 c = let o = out (c .before .before .before .before .before) in
-    met _ _ _ (refuse (c .number-of .result) 0 o)
+    result _ _ _ (refuse (c .number-of .result) 0 o)
     (reads (c .before .before .before .before .before) ∙ ap (λ x. afterCheck x (leavesOf (given (c .before .before .before .before .before)) (leaves (c .before .before .before .before .before)) o) o) (sym (c .before .before .check-setup .ensures))
     ∙ refused-setup (c .before .before .check-setup .result) (leavesOf (given (c .before .before .before .before .before)) (leaves (c .before .before .before .before .before)) o) o (c .before .match2 .keys2) ∙ ap (λ (k : ℕ). refuse k 0 o) (sym (c .number-of .ensures)))
 
 returns-3 : tie.Need-returns-3
-returns-3 c = met _ _ _ _ (accepted (c .before) ∙ odd _ _ _ (c .if1 .taken))
+returns-3 c = result _ _ _ _ (accepted (c .before) ∙ odd _ _ _ (c .if1 .taken))
 
 returns-4 : tie.Need-returns-4
-returns-4 c = met _ _ _ _ (accepted (c .before .before) ∙ long _ _ _ (c .before .if1 .left) (c .if2 .taken))
+returns-4 c = result _ _ _ _ (accepted (c .before .before) ∙ long _ _ _ (c .before .if1 .left) (c .if2 .taken))
 
 returns-5 : tie.Need-returns-5
-returns-5 c = met _ _ _ _ (accepted (c .before .before .before) ∙ short _ _ _ (c .before .before .if1 .left) (c .before .if2 .left) (c .if3 .taken))
+returns-5 c = result _ _ _ _ (accepted (c .before .before .before) ∙ short _ _ _ (c .before .before .if1 .left) (c .before .if2 .left) (c .if3 .taken))
 
 slice-aggregate-fill : tie.Need-slice-aggregate-fill
 slice-aggregate-fill c = search needs
@@ -107,8 +107,8 @@ refused-requires c κs = search needs
 
 returns-6 : tie.Need-returns-6
 returns-6 c = let f = c .before .before .before .before in
-    let m = met _ _ _ _ (walked f _ (ap (λ w. walkIn w (length (leaves (f .before .before .before .before .before .before .before .before .before .before)) / 18) (f .fill .last .1 .1 .1 .0)) (c .before .enum-told4 .given .1))) in
-    (c .refused .ensures ∙ ap refusedOf (c .before .enum-told4 .given .1) ∙ m .0, m .1)
+    let e = walked f _ (ap (λ w. walkIn w (length (leaves (f .before .before .before .before .before .before .before .before .before .before)) / 18) (f .fill .last .1 .1 .1 .0)) (c .before .enum-told4 .given .1)) in
+    met _ _ _ (c .refused .result) (out (f .before .before .before .before .before .before .before .before .before .before)) (c .refused .ensures ∙ ap refusedOf (c .before .enum-told4 .given .1) ∙ ap (λ (y : Result). y .answer) (sym e)) (ap (λ (y : Result). y .out) (sym e))
 
 array-share-prefix-rights : tie.Need-array-share-prefix-rights
 array-share-prefix-rights c = search needs
@@ -125,8 +125,9 @@ same-length c = search needs
 returns-7 : tie.Need-returns-7
 returns-7 c = let f = c .before .before .before .before .before .before .before .before in
     let v = f .fill .last .1 .1 .1 .0 in
-    let m = met _ _ _ _ (walked f _ (ap (λ w. walkIn w (length (leaves (f .before .before .before .before .before .before .before .before .before .before)) / 18) v) (c .before .before .before .before .before .enum-told3 .given .1))) in
-    (m .0, c .before .before .copy .ensures .1 ∙ copied (take (length (leaves (f .before .before .before .before .before .before .before .before .before .before)) / 18) v) (out (f .before .before .before .before .before .before .before .before .before .before)) ∙ m .1)
+    let e = walked f _ (ap (λ w. walkIn w (length (leaves (f .before .before .before .before .before .before .before .before .before .before)) / 18) v) (c .before .before .before .before .before .enum-told3 .given .1)) in
+    met _ _ _ _ (c .before .before .copy .last .1 .0) (ap (λ (y : Result). y .answer) (sym e))
+    (c .before .before .copy .ensures .1 ∙ copied (take (length (leaves (f .before .before .before .before .before .before .before .before .before .before)) / 18) v) (out (f .before .before .before .before .before .before .before .before .before .before)) ∙ ap (λ (y : Result). y .out) (sym e))
 
 pub list-rights-spec : {M : Type 1} → statement M
 list-rights-spec =
