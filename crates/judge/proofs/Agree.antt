@@ -3,11 +3,10 @@
 -- the lowest refused one gives the number. Assumes nothing.
 use mathlib.Core.Path.{_≡_, refl, sym, ap, _∙_}
 use mathlib.Core.Bool.{Bool, true, false, cond, _||_}
-use mathlib.Core.List.{List, [], _∷_}
 use Prim.Native.Nat.{ℕ, _+_, _*_}
-use native.Mathlib.Nat.{mul-one, mul-zero, zero-add, add-zero, add-assoc}
+use native.Mathlib.Nat.{mul-one, mul-zero, zero-add, add-assoc}
 use native.Mathlib.Omega.{arith}
-use lib.Dec.{eqb, leb, ltb}
+use lib.Dec.{leb, ltb}
 use Rattle.records.specs.Access.{accessOf, accessAt}
 use Rattle.records.specs.Leaf.{stage1Of, stage2Of, limitsOf}
 use Rattle.records.specs.declared.access.Access.{Access}
@@ -18,10 +17,10 @@ use Rattle.records.specs.declared.access.Right.the-variants.{Read, Write, Execu
 use Rattle.records.specs.declared.leaf.Leaf.{Leaf}
 use Rattle.records.specs.declared.setup.Setup.{Setup}
 use Rattle.rights.proofs.Levels.{refused-permits}
-use Rattle.rights.specs.Answers.{follow, permitted, refuseIf}
+use Rattle.rights.specs.Answers.{follow, permitted}
 use Rattle.rights.specs.Checks.{setupCheck, accessCheck, leafCheck}
 use Rattle.rights.specs.Level.{unlessRefused, collect, levelOf, levelsOf}
-use Rattle.rights.specs.Order.{stagesAnswer, leafAnswer, rightsAnswer}
+use Rattle.rights.specs.Order.{leafAnswer, rightsAnswer}
 use Rattle.rights.specs.declared.checks.AccessCheck.the-variants as access
 use Rattle.rights.specs.Overlay.{three}
 use Rattle.rights.specs.declared.answer.Answer.{Answer}
@@ -30,13 +29,13 @@ use Rattle.rights.specs.declared.stages.LevelAnswer.{LevelAnswer}
 use Rattle.rights.specs.declared.stages.LevelAnswer.the-variants as level
 use Rattle.rights.specs.declared.stages.LevelRights.{LevelRights}
 use Rattle.attributes.proofs.Laws.{passes, refuses}
-use Rattle.attributes.specs.Order.{attributesOf, checkOf, memoryOf}
+use Rattle.attributes.specs.Order.{attributesOf, checkOf}
 use Rattle.attributes.specs.declared.Check.{Check}
 use Rattle.attributes.specs.declared.Check.the-variants as check
 use Rattle.attributes.specs.declared.Memory.{Memory}
 use Rattle.judge.specs.Judge.{fetches, combined, after, judged}
 use Rattle.judge.specs.LeafRights.{weigh, add, gather, accesses, leafRights}
-use Rattle.judge.specs.Pass.{one, levelByte, checked, levelPart, withUpper, join, passLevels, afterCheck, leafPass}
+use Rattle.judge.specs.Pass.{one, levelByte, checked, levelPart, join, leafPass}
 use Rattle.judge.specs.declared.judge.Judgement.{Judgement}
 use Rattle.judge.specs.declared.judge.Judgement.the-variants as judgement
 use Rattle.judge.specs.declared.leaf.LeafRights.{LeafRights}

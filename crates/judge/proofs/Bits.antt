@@ -1,22 +1,20 @@
 -- The bits of a leaf's rights and the bytes of a list, read back: bit a is on exactly where access a is allowed. Assumes nothing.
 use mathlib.Core.Path.{_≡_, refl, sym, ap, _∙_}
 use mathlib.Core.Bool.{Bool, true, false, cond, _&&_}
-use mathlib.Core.List.{List, [], _∷_, _++_}
-use Prim.Native.Nat.{ℕ, zero, suc, _+_, _*_, _/_, _%_, _≤_, _<_}
+use mathlib.Core.List.{List, [], _∷_}
+use Prim.Native.Nat.{ℕ, zero, suc, _+_, _*_, _<_}
 use native.Mathlib.Nat.{add-zero, zero-add, add-suc, suc-add, mul-one, mul-zero, le-of-suc-le-suc, not-suc-le-zero}
 use native.Mathlib.Omega.{arith}
 use lib.Dec.{ltb}
-use lib.ListN.{length, getD, drop, List·getD-append}
-use lib.Seq.{drop-at}
+use lib.ListN.{length, getD}
 use Rattle.records.proofs.Cases.{at, each}
 use Rattle.records.specs.Bytes.{bit}
-use Rattle.records.specs.MapFile.{over}
 use Rattle.records.specs.declared.leaf.Leaf.{Leaf}
 use Rattle.records.specs.declared.setup.Setup.{Setup}
-use Rattle.judge.specs.Demands.{isAllowed, judgedBit, ListDemand}
+use Rattle.judge.specs.Demands.{isAllowed, judgedBit}
 use Rattle.judge.specs.Judge.{judged}
-use Rattle.judge.specs.LeafRights.{weigh, add, gather, accesses, leafRights}
-use Rattle.judge.specs.List.{leafAt, Walk, bytes, refused, step, walk}
+use Rattle.judge.specs.LeafRights.{add, gather, accesses, leafRights}
+use Rattle.judge.specs.List.{Walk, bytes, refused, step, walk}
 use Rattle.judge.specs.Pass.{one}
 use Rattle.judge.specs.declared.judge.Judgement.{Judgement}
 use Rattle.judge.specs.declared.judge.Judgement.the-variants as judgement

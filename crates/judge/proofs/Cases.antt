@@ -1,7 +1,6 @@
 -- The starred cases, as one statement by computation; with them the rights of cases a and c. Assumes nothing.
 use mathlib.Core.Path.{_≡_, refl}
-use mathlib.Core.List.{List, map, _∷_, []}
-use Rattle.records.specs.Access.{readAccess}
+use mathlib.Core.List.{map, _∷_, []}
 use Rattle.records.specs.Bytes.{le64}
 use Rattle.records.specs.Leaf.{leafOf, readLeaf, limitsOf, stage1Of, stage2Of}
 use Rattle.records.specs.Setup.{controlOf, setupOf, readSetup}
@@ -19,7 +18,6 @@ use Rattle.judge.specs.Cases.{Case, setupBytes, leafBytes, starred, plai
 use Rattle.judge.specs.Judge.{judged, judgeOf}
 use Rattle.judge.specs.LeafRights.{leafRights}
 use Rattle.judge.specs.declared.judge.Judgement.{Judgement}
-use Rattle.judge.specs.declared.leaf.LeafRights.{LeafRights}
 use Rattle.judge.specs.declared.leaf.LeafRights.the-variants.{Rights}
 
 -- the judge's answer to a case

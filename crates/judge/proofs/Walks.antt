@@ -1,10 +1,9 @@
 -- Laws of a walk over leaves: one leaf more, a refusal, the end; and walks over functions that agree. Assumes nothing.
-use mathlib.Core.Path.{_≡_, refl, sym, ap, _∙_}
+use mathlib.Core.Path.{_≡_, refl, sym, ap}
 use mathlib.Core.List.{List, [], _∷_, _++_, append-nil}
 use Prim.Native.Nat.{ℕ, zero, suc, _+_, _-_, _≤_, _<_}
 use native.Mathlib.Numerals.{add-one}
 use native.Mathlib.Omega.{arith}
-use lib.ListN.{length, length-append}
 use lib.Seq.{append-snoc}
 use Rattle.judge.specs.List.{Walk, bytes, refused, step, walk}
 use Rattle.judge.specs.declared.leaf.LeafRights.{LeafRights}

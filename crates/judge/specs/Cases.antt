@@ -3,7 +3,6 @@
 use Prim.Native.Nat.{ℕ, zero, suc, _/_, _%_}
 use mathlib.Core.List.{List, [], _∷_, _++_}
 use lib.ListN.{replicate}
-use Rattle.attributes.specs.declared.Memory.{Memory}
 use Rattle.rights.specs.declared.answer.Kind.{Kind}
 use Rattle.rights.specs.declared.answer.Kind.the-variants.{Translation, AccessFlag, Permission}
 use Rattle.judge.specs.declared.judge.Judgement.{Judgement}

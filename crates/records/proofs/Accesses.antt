@@ -1,5 +1,5 @@
 -- What an access number that was read tells. Assumes nothing.
-use mathlib.Core.Path.{_≡_, refl, sym, _∙_}
+use mathlib.Core.Path.{_≡_, refl}
 use mathlib.Core.Bool.{Bool, true, false}
 use Prim.Native.Nat.{ℕ, _≤_, _<_}
 use native.Mathlib.Omega.{arith}
@@ -7,7 +7,6 @@ use lib.Dec.{leb}
 use borrow.Author.Tests.{leb-true, leb-false}
 use Rattle.records.specs.Access.{accessAt, readAccess}
 use Rattle.records.specs.declared.access.Access.{Access}
-use Rattle.records.specs.declared.access.AccessRead.{AccessRead}
 use Rattle.records.specs.declared.access.AccessRead.the-variants.{Read, Unknown}
 
 -- a number that no access has is above 5

@@ -1,6 +1,6 @@
 -- Laws that turn one computation over a finite domain into the equation at each of its values: all numbers below k, both truth
 -- values, and all lists of n truth values. A table's rule and a rule over truth values are proved by them, with `refl`. Assumes nothing.
-use mathlib.Core.Path.{_≡_, refl}
+use mathlib.Core.Path.{_≡_}
 use mathlib.Core.Bool.{Bool, true, false}
 use mathlib.Core.List.{List, [], _∷_}
 use Prim.Native.Nat.{ℕ, zero, suc, _<_}

@@ -1,7 +1,7 @@
 -- Document 01, 'Setup and leaf records': access numbers, which the forbidden bits agree with. Assumes nothing.
 use Prim.Native.Nat.{ℕ}
 use mathlib.Core.List.{List, [], _∷_}
-use mathlib.Core.Bool.{Bool, cond}
+use mathlib.Core.Bool.{cond}
 use lib.Dec.{leb}
 use lib.ListN.{getD}
 use Rattle.records.specs.declared.access.Access.{Access}

@@ -1,8 +1,8 @@
 -- Document 01, 'File, program, host': a file is fields, a one-byte tag, a two-byte length and a value; first exactly one tag 1
 -- (52 bytes), then 0 to 2,048 of tag 2 (18 bytes), and all else gives 13. Assumes nothing.
-use Prim.Native.Nat.{ℕ, zero, suc, _+_, _*_}
+use Prim.Native.Nat.{ℕ, zero, suc, _+_}
 use mathlib.Core.List.{List, [], _∷_, _++_}
-use mathlib.Core.Bool.{Bool, true, false, cond, _&&_}
+use mathlib.Core.Bool.{Bool, cond, _&&_}
 use lib.Dec.{eqb, leb}
 use lib.ListN.{length, take, drop}
 use Rattle.records.specs.Bytes.{byteAt, le16}

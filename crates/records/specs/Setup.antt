@@ -1,7 +1,7 @@
 -- Document 01, 'Setup and leaf records', first paragraph: a setup of 52 bytes. Assumes nothing.
 use Prim.Native.Nat.{ℕ, _^_}
 use mathlib.Core.List.{List}
-use mathlib.Core.Bool.{Bool, cond}
+use mathlib.Core.Bool.{cond}
 use lib.Dec.{eqb, leb}
 use lib.ListN.{length}
 use Rattle.records.specs.Bytes.{bit, le32, le64}

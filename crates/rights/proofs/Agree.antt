@@ -1,7 +1,7 @@
 -- The one pass gives what the accesses of a level give one by one. Stage 1 and stage 2 are each seen first as what they do to every
 -- access; what is left is a rule over truth values, computed at all of them. Assumes nothing.
-use mathlib.Core.Path.{_≡_, refl, sym, ap, _∙_}
-use mathlib.Core.Bool.{Bool, true, false, cond, not, _&&_, _||_}
+use mathlib.Core.Path.{_≡_, refl}
+use mathlib.Core.Bool.{Bool, true, false, cond, _&&_}
 use mathlib.Core.List.{List, [], _∷_}
 use Prim.Native.Nat.{ℕ}
 use lib.Dec.{leb}
@@ -22,15 +22,14 @@ use Rattle.records.specs.declared.setup.Setup.{Setup}
 use Rattle.base.specs.Base.{baseOf}
 use Rattle.base.specs.declared.BaseAnswer.{BaseAnswer}
 use Rattle.base.specs.declared.BaseAnswer.the-variants as base
-use Rattle.base.specs.declared.Rights.{Rights as SixRights}
 use Rattle.rights.specs.Answers.{follow, faultOf, faultUnless, refuseIf, descriptorAnswer, permitted}
 use Rattle.rights.specs.Level.{collect, levelOf}
 use Rattle.rights.specs.Order.{dirty, baseAnswer, stage1Answer, stagesAnswer}
-use Rattle.rights.specs.Overlay.{three, levelIn, hasRight, bitOf, registerOf, slotRights, slotAnswer}
-use Rattle.rights.specs.Pass.{everything, fromBase, stage1Pass, stage2Pass, none, any, both, overlaid, afterStage2, passLevel, passBase, passWith, pass}
+use Rattle.rights.specs.Overlay.{three, levelIn, hasRight, bitOf, registerOf, slotAnswer}
+use Rattle.rights.specs.Pass.{everything, fromBase, stage1Pass, stage2Pass, none, any, both, overlaid, passLevel, passWith, pass}
 use Rattle.rights.specs.Stage2.{stage2Rights, stage2Answer}
 use Rattle.rights.specs.declared.answer.Answer.{Answer}
-use Rattle.rights.specs.declared.answer.Answer.the-variants.{Permitted, Fault, Refused}
+use Rattle.rights.specs.declared.answer.Answer.the-variants.{Permitted, Refused}
 use Rattle.rights.specs.declared.answer.Kind.{Kind}
 use Rattle.rights.specs.declared.answer.Kind.the-variants.{Translation, AccessFlag, Permission, Overlay}
 use Rattle.rights.specs.declared.level.Stage1Pass.{Stage1Pass}

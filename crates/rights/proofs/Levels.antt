@@ -1,7 +1,7 @@
 -- What the rights of a level say of its single accesses: a right is on exactly where its access is permitted, and a level that is refused
 -- permits none. Assumes nothing.
-use mathlib.Core.Path.{_≡_, refl, sym, ap, _∙_}
-use mathlib.Core.Bool.{Bool, true, false}
+use mathlib.Core.Path.{_≡_, ap}
+use mathlib.Core.Bool.{false}
 use Prim.Native.Nat.{ℕ}
 use native.Mathlib.Omega.{arith}
 use Rattle.records.specs.Access.{accessOf}

@@ -32,7 +32,6 @@ use Rattle.rights.specs.declared.answer.Answer.the-variants.{Permitted, 
 use Rattle.rights.specs.declared.answer.Fault.{Fault as FaultOf}
 use Rattle.rights.specs.declared.answer.Kind.{Kind}
 use Rattle.rights.specs.declared.answer.Kind.the-variants.{Translation, AccessFlag, Permission, Overlay}
-use Rattle.rights.specs.declared.checks.AccessCheck.{AccessCheck}
 use Rattle.rights.specs.declared.checks.AccessCheck.the-variants as access
 
 pub data Named : Answer → Type 0 where

@@ -1,16 +1,15 @@
 -- What rights promises the planner: how the rights of a level depend on the register put in place of that level's POR. They depend on
 -- it only through the slot at the leaf's POIndex; a right is on with slot v exactly where it is on with slot 7 and it is on with slot
 -- 0 or v has its bit; and a leaf that passes with 77777777 in place is refused with no usable register. Assumes nothing.
-use mathlib.Core.Path.{_≡_, refl, sym, ap, _∙_}
-use mathlib.Core.Bool.{Bool, true, false, cond, not, _&&_, _||_}
+use mathlib.Core.Path.{_≡_, refl, sym, _∙_}
+use mathlib.Core.Bool.{Bool, false, cond, _&&_, _||_}
 use mathlib.Core.List.{List, [], _∷_}
-use Prim.Native.Nat.{ℕ, _<_, _%_}
+use Prim.Native.Nat.{ℕ, _<_}
 use native.Mathlib.Omega.{arith}
-use lib.Dec.{leb}
 use lib.ListN.{getD}
 use borrow.Author.Tests.{lt-leb}
 use Rattle.records.proofs.Cases.{at, each}
-use Rattle.records.specs.Bytes.{bit, nibble}
+use Rattle.records.specs.Bytes.{nibble}
 use Rattle.records.specs.Leaf.{placeOf, slotAt}
 use Rattle.records.specs.declared.access.Level.{Level}
 use Rattle.records.specs.declared.access.Level.the-variants.{Privileged, Unprivileged}
@@ -24,13 +23,12 @@ use Rattle.base.specs.Base.{baseOf}
 use Rattle.rights.proofs.Agree.{agree}
 use Rattle.rights.specs.Level.{levelOf, rangeFrom, rangeOf, between}
 use Rattle.rights.specs.Overlay.{three, levelIn, bitOf, registerOf, slotRights}
-use Rattle.rights.specs.Pass.{stage1Pass, stage2Pass, none, any, both, overlaid, afterStage2, passLevel, passWith}
+use Rattle.rights.specs.Pass.{stage1Pass, stage2Pass, none, any, both, overlaid, passLevel, passWith}
 use Rattle.rights.specs.Register.{put, allOpen}
 use Rattle.rights.specs.declared.level.Stage1Pass.{Stage1Pass}
 use Rattle.rights.specs.declared.level.Stage1Pass.the-variants as one
 use Rattle.rights.specs.declared.level.Stage2Pass.{Stage2Pass}
 use Rattle.rights.specs.declared.level.Stage2Pass.the-variants as two
-use Rattle.rights.specs.declared.range.LevelRange.{LevelRange}
 use Rattle.rights.specs.declared.range.LevelRange.the-variants as range
 use Rattle.rights.specs.declared.stages.LevelAnswer.{LevelAnswer}
 use Rattle.rights.specs.declared.stages.LevelAnswer.the-variants.{Rights, Refused}

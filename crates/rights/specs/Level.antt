@@ -1,7 +1,7 @@
 -- All accesses of a level, from the answers of each: document 01, 'A leaf's **rights**', up to the attribute steps; and what the
 -- planner asks of a level. Assumes nothing.
 use Prim.Native.Nat.{ℕ}
-use mathlib.Core.Bool.{Bool, true, false, _&&_, _||_}
+use mathlib.Core.Bool.{_&&_, _||_}
 use Rattle.records.specs.Access.{accessOf}
 use Rattle.records.specs.Leaf.{placeOf}
 use Rattle.records.specs.declared.access.Level.{Level}

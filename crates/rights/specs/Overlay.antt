@@ -1,6 +1,6 @@
 -- Document 01, 'Stage 1 rights', **Overlay**. Rights of a level, and what a slot grants. Assumes nothing.
 use Prim.Native.Nat.{ℕ}
-use mathlib.Core.Bool.{Bool, true, false, cond, _&&_}
+use mathlib.Core.Bool.{Bool, cond}
 use lib.Dec.{leb}
 use Rattle.records.specs.Bytes.{bit}
 use Rattle.records.specs.declared.access.Access.{Access}

@@ -1,7 +1,6 @@
 -- `two_leaves` is safe and ends. Assumes nothing.
 use borrow.Author.Needs.{needs}
 use Prim.Native.Nat.{_≤_, _-_}
-use native.Mathlib.Omega.{arith}
 use Rattle.judge_vectors.proofs.two_leaves.Statement.{statement}
 use Rattle.judge_vectors.proofs.two_leaves.Tie as tie
 

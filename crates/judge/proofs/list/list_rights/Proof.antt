@@ -1,5 +1,5 @@
 -- `list::list_rights` meets its contract: each test picks its case of `listOf`, and the walk that `fill` made is the list's. Assumes nothing.
-use mathlib.Core.Path.{_≡_, refl, sym, ap, _∙_}
+use mathlib.Core.Path.{_≡_, sym, ap, _∙_}
 use mathlib.Core.List.{List}
 use Prim.Native.Nat.{ℕ, _/_, _≤_}
 use native.Mathlib.Omega.{arith}

@@ -1,5 +1,5 @@
 -- `list::pass_at` meets its contract: the 18 bytes of a leaf are read, so that no length is refused. Assumes nothing.
-use mathlib.Core.Path.{_≡_, sym, ap, _∙_}
+use mathlib.Core.Path.{_≡_, sym, _∙_}
 use mathlib.Core.List.{List}
 use Prim.Native.Nat.{ℕ, _*_, _+_, _-_, _≤_}
 use native.Mathlib.Nat.{add-sub-cancel-left}
@@ -10,7 +10,6 @@ use Rattle.records.proofs.Lengths.{leaf-read}
 use Rattle.records.specs.Leaf.{readLeaf}
 use Rattle.records.specs.declared.leaf.LeafRead.the-variants.{Read}
 use Rattle.judge.specs.List.{leafAt}
-use Rattle.judge.specs.Pass.{leafPass}
 use Rattle.judge.specs.Walked.{passAt}
 use borrow.Author.Needs.{needs}
 use Rattle.judge.proofs.list.pass_at.Statement.{statement}

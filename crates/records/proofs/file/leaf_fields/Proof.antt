@@ -1,13 +1,12 @@
 -- `file::leaf_fields` meets its contract. The loop's invariant: what is found from the first leaf field on is the n fields whose
 -- values are in place, and then what is found from `at` on. The measure is what is left of the file. Assumes nothing.
 use borrow.Author.Needs.{needs}
-use mathlib.Core.Path.{_≡_, refl, sym, ap, _∙_}
-use mathlib.Core.List.{List, []}
-use Prim.Native.Nat.{ℕ, _≤_, _<_, _-_, _*_, _+_}
+use mathlib.Core.Path.{_≡_, refl, sym, _∙_}
+use Prim.Native.Nat.{_≤_, _<_, _-_, _*_, _+_}
 use native.Mathlib.Omega.{arith}
 use lib.ListN.{length, take, drop, length-take, length-drop}
 use denote.Ref.{now}
-use Rattle.records.specs.MapFile.{value, after, leavesOf}
+use Rattle.records.specs.MapFile.{after, leavesOf}
 use Rattle.records.proofs.Fields.{after-none, ends, too-many, other, turn, whole}
 use Rattle.records.proofs.file.leaf_fields.Statement.{statement}
 use Rattle.records.proofs.file.leaf_fields.Tie as tie

@@ -4,7 +4,7 @@ use mathlib.Core.Path.{_≡_, refl, sym, ap, _∙_}
 use mathlib.Core.List.{List}
 use Prim.Native.Nat.{ℕ, _≤_, _*_}
 use native.Mathlib.Omega.{arith}
-use lib.ListN.{length, take, drop, length-take, length-drop, length-replicate}
+use lib.ListN.{length, take, length-take, length-replicate}
 use lib.Seq.{length-take-le}
 use denote.Ref.{now}
 use borrow.Author.Tests.{le-leb, lt-leb}
