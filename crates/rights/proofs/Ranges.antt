@@ -1,8 +1,8 @@
 -- What rights promises the planner: how the rights of a level depend on the register put in place of that level's POR. They depend on
 -- it only through the slot at the leaf's POIndex; a right is on with slot v exactly where it is on with slot 7 and it is on with slot
 -- 0 or v has its bit; and a leaf that passes with 77777777 in place is refused with no usable register. Assumes nothing.
-use mathlib.Core.Path.{_≡_, refl, sym, _∙_}
-use mathlib.Core.Bool.{Bool, false, cond, _&&_, _||_}
+use mathlib.Core.Path.{_≡_, refl, sym, ap, _∙_}
+use mathlib.Core.Bool.{Bool, false, cond, _&&_, _||_, true}
 use mathlib.Core.List.{List, [], _∷_}
 use Prim.Native.Nat.{ℕ, _<_}
 use native.Mathlib.Omega.{arith}
@@ -51,7 +51,7 @@ pub with-register : (s : Setup) (d : Stage1) (e : Stage2) (t : Limits) (l : Leve
 with-register s d e t l r = agree (put s l r) d e t l ∙ rw (placed s l r, put-stage1 s d t l r)
 
 -- every slot of 77777777 is 7, and every slot of 0 is 0
-open-slot : (i : POIndex) → slotAt allOpen i ≡ 7
+pub open-slot : (i : POIndex) → slotAt allOpen i ≡ 7
 open-slot i = at 8 (λ (k : ℕ). nibble allOpen k) (λ (k : ℕ). 7) refl (placeOf i) (omega arith)
 
 shut-slot : (i : POIndex) → slotAt 0 i ≡ 0
@@ -122,6 +122,31 @@ from-range k (Rights g) (Rights h) p f b e = (cc, cc, cc)
 from-range k (Rights g) (Refused n) p f b e = let z : _≡_ {A = ℕ} 0 1 = cc in absurd (omega arith)
 from-range k (Refused n) y p f b e = let z : _≡_ {A = ℕ} 0 1 = cc in absurd (omega arith)
 
+-- rights with slot 7 mean rights with slot 0
+abbrev stays : LevelAnswer → LevelAnswer → Bool
+stays (Rights f) (Rights b) = true
+stays (Rights f) (Refused n) = false
+stays (Refused n) b = true
+
+abbrev staying : (LevelRights → LevelRights → LevelAnswer) → List Bool → Bool
+staying y m = stays (slotted y (slotRights 7) m) (slotted y (slotRights 0) m)
+
+stay : (r : LevelRights) (on : Bool) (t : Stage2Pass) (l : Level) → stays (passLevel r on 7 t l) (passLevel r on 0 t l) ≡ true
+stay r on (two.Granted g) l = each (values r on none (levelIn g l)) (staying (λ a b. Rights (both a b))) (λ m. true) refl
+stay r on two.Nothing l = each (values r on none none) (staying (λ a b. Rights none)) (λ m. true) refl
+stay r on (two.Refused n) l = each (values r on none none) (staying (λ a b. cond (any a) (Refused n) (Rights none))) (λ m. true) refl
+
+stay-with : (o : LevelBits) (x : Stage1Pass) (t : Stage2Pass) (l : Level) → stays (passWith o x 7 t l) (passWith o x 0 t l) ≡ true
+stay-with o (one.Granted b) t l = stay (levelIn (b .rights) l) (bitOf o l && bitOf (b .overlay) l) t l
+stay-with o one.Nothing t l = refl
+stay-with o (one.Refused n) t l = refl
+
+-- so a refused range is refused with slot 7
+from-refused : (k : ℕ) (x y : LevelAnswer) (n : ℕ) → stays x y ≡ true → rangeFrom k x y ≡ range.Refused n → x ≡ Refused n
+from-refused k (Refused m) y n h e = cc
+from-refused k (Rights f) (Refused m) n h e = let z : _≡_ {A = ℕ} 0 1 = ap (λ (b : Bool). cond b 1 0) h in absurd (omega arith)
+from-refused k (Rights f) (Rights b) n h e = let z : _≡_ {A = ℕ} 0 1 = cc in absurd (omega arith)
+
 module _ (s : Setup) (d : Stage1) (e : Stage2) (t : Limits) (l : Level) where
   -- the level's answer with slot v
   abbrev with : ℕ → LevelAnswer
@@ -138,3 +163,16 @@ module _ (s : Setup) (d : Stage1) (e : Stage2) (t : Limits) (l : Level) where
   -- the place is that of the leaf's slot
   pub place-is : (k : ℕ) (f b : LevelRights) → rangeOf s d e t l ≡ range.Range k f b → k ≡ placeOf (d .poindex)
   place-is k f b q = from-range (placeOf (d .poindex)) (with 7) (with 0) k f b (sym (range-is s d e t l) ∙ q) .0
+
+  -- the bare rights are those with 0 in place
+  pub bare-is : (k : ℕ) (f b : LevelRights) → rangeOf s d e t l ≡ range.Range k f b → levelOf (put s l 0) d e t l ≡ Rights b
+  bare-is k f b q =
+      with-register s d e t l 0 ∙ rw (shut-slot (d .poindex))
+      (from-range (placeOf (d .poindex)) (with 7) (with 0) k f b (sym (range-is s d e t l) ∙ q) .2)
+
+  -- a range is refused where the level is refused with 77777777 in place
+  pub refused-is : (n : ℕ) → rangeOf s d e t l ≡ range.Refused n → levelOf (put s l allOpen) d e t l ≡ Refused n
+  refused-is n q =
+      with-register s d e t l allOpen ∙ rw (open-slot (d .poindex))
+      (from-refused (placeOf (d .poindex)) (with 7) (with 0) n (stay-with (s .control .overlay) (stage1Pass s d t) (stage2Pass (s .control .stage2) e) l)
+      (sym (range-is s d e t l) ∙ q))

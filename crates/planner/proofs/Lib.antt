@@ -1,0 +1,10 @@
+pub mod Steps
+pub mod Bits
+pub mod Packing
+pub mod Cuts
+pub mod Turns
+pub mod Promise
+pub mod Leaves
+pub mod Starts
+pub mod Theorem
+pub mod Consequences

@@ -1,0 +1,52 @@
+-- `plan_level` meets its contract: its answer is the checks' refusal or what the leaves give, and demand 3 holds of it. Assumes nothing.
+use mathlib.Core.Path.{_≡_, refl, sym, ap, _∙_}
+use mathlib.Core.List.{List}
+use Prim.Native.Nat.{ℕ}
+use lib.ListN.{length}
+use denote.Ref.{now}
+use Rattle.planner.specs.Demand3.{Demanded}
+use Rattle.planner.specs.Plan.{startOf, planFrom, planOf, valuesOf}
+use Rattle.planner.specs.declared.Plan.{Plan}
+use Rattle.planner.specs.declared.start.Start.{Start}
+use Rattle.planner.proofs.Starts.{fits}
+use Rattle.planner.proofs.Theorem.{demand3}
+use borrow.Author.Needs.{needs}
+use Rattle.planner.proofs.plan_level.Statement.{statement}
+use Rattle.planner.proofs.plan_level.Tie as tie
+
+-- an answer that is the plan meets demand 3
+met : (bytes : List ℕ) (lv : ℕ) (ls : List ℕ) (x : Start) (p : Plan) → startOf bytes lv (length ls) ≡ x → p ≡ planFrom ls x
+    → (p ≡ planOf bytes lv ls) × ((valuesOf p ≡ valuesOf (planOf bytes lv ls)) × Demanded bytes lv ls p)
+unfolding planOf
+met bytes lv ls x p e q =
+    let r : p ≡ planOf bytes lv ls = q ∙ ap (planFrom ls) (sym e) in
+    (r, (ap valuesOf r, demand3 bytes lv ls p r))
+
+begin-requires : tie.Need-begin-requires
+begin-requires c κs = search needs
+
+enum-known-start : tie.Need-enum-known-start
+enum-known-start c = search needs
+
+enum-known-start-2 : tie.Need-enum-known-start-2
+enum-known-start-2 c = search needs
+
+plan-leaves-requires : tie.Need-plan-leaves-requires
+plan-leaves-requires c κs = fits _ (now (c .before .before .before .before .before .before .args .setup)) _ _ _ (sym (c .before .before .before .begin .ensures) ∙ c .before .start2 .given .1)
+
+returns : tie.Need-returns
+returns c = met _ _ _ _ _ (sym (c .before .before .before .begin .ensures) ∙ c .before .start .given .1) refl
+
+returns-2 : tie.Need-returns-2
+returns-2 c = met _ _ _ _ _ (sym (c .before .before .before .before .begin .ensures) ∙ c .before .before .start2 .given .1) (c .plan-leaves .ensures)
+
+pub plan-level-spec : {M : Type 1} → statement M
+plan-level-spec =
+    tie.close
+    (tie.spec
+    begin-requires
+    enum-known-start
+    enum-known-start-2
+    plan-leaves-requires
+    returns
+    returns-2)

@@ -1,0 +1,3 @@
+pub mod Register
+pub mod Plan
+pub mod Demand3

@@ -1,0 +1,79 @@
+// The planner layer: the overlay register of a level that stops every forbidden access of that level on a list of leaves, with each
+// slot bit on that may be on (document 01, 'The planner'; refusals 1 to 7 and 10 to 13).
+//
+// `plan_level` is the one public function and has no `requires`. Of the rights layer it uses the contracts of the checks and of
+// `range::level_range`, and the laws of its proofs/Ranges and proofs/Levels.
+ghost use mathlib.Core.Path.{_≡_};
+ghost use Prim.Native.Nat.{_/_, _%_, _≤_};
+ghost use lib.ListN.{length};
+ghost use Rattle.planner.specs.Plan.{planLeaves, planOf, valuesOf};
+ghost use Rattle.planner.specs.Demand3.{Demanded};
+use crate::leaf::LeafPlan;
+use crate::leaf::plan_leaf;
+use crate::leaf::refusal;
+use crate::masks::cut_mask;
+use crate::masks::first_of;
+use crate::masks::pack;
+use crate::start::Start;
+use crate::start::begin;
+use records::access::Level;
+use records::setup::Setup;
+
+mod leaf;
+mod masks;
+mod start;
+
+// A register, or a refusal's number and the leaf's index (0 if none is at fault).
+pub enum Plan {
+    Register(u64),
+    Refused { number: u8, leaf: usize },
+}
+
+// One pass over the list: each leaf's 5, 6 or 7, then 10, then the register.
+fn plan_leaves(s: Setup, l: Level, leaves: &[u8]) -> Plan
+    requires { ⌜ (length (now leaves) % 18 ≡ 0) × (length (now leaves) / 18 ≤ 2048) ⌝ }
+    ensures { λ r. ⌜ r ≡ planLeaves s l (now (leaves .entry)) ⌝ }
+{
+    let n = leaves.len() / 18;
+    let mut masks = [7u8; 8];
+    let mut first = n; // the first leaf that no register cures, or n
+    let mut i = 0;
+    while i < n {
+        let a = i * 18;
+        let plan = plan_leaf(s, l, &leaves[a..a + 18]);
+        let LeafPlan::Cut {
+            place,
+            taken,
+            uncured,
+        } = plan
+        else {
+            return Plan::Refused {
+                number: refusal(plan),
+                leaf: i,
+            };
+        };
+        masks[place] = cut_mask(masks[place], taken);
+        first = first_of(first, n, i, uncured);
+        i += 1;
+    }
+    if first < n {
+        return Plan::Refused {
+            number: 10,
+            leaf: first,
+        };
+    }
+    Plan::Register(pack(masks))
+}
+
+// The register of a level (0 privileged, 1 unprivileged) for a setup of 52 bytes and leaves of 18 bytes each.
+pub fn plan_level(setup: &[u8], level: u64, leaves: &[u8]) -> Plan
+    ensures { λ r. ⌜ r ≡ planOf (now (setup .entry)) level (now (leaves .entry)) ⌝ }
+    ensures { λ r. ⌜ valuesOf r ≡ valuesOf (planOf (now (setup .entry)) level (now (leaves .entry))) ⌝ }
+    ensures { λ r. ⌜ Demanded (now (setup .entry)) level (now (leaves .entry)) r ⌝ }
+{
+    let start = begin(setup, level, leaves.len());
+    match start {
+        Start::Refused(number) => Plan::Refused { number, leaf: 0 },
+        Start::Leaves { setup: s, level: l } => plan_leaves(s, l, leaves),
+    }
+}
