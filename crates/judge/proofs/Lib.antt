@@ -5,3 +5,4 @@ pub mod Demands
 pub mod Lists
 pub mod Steps
 pub mod Walks
+pub mod Bounds
