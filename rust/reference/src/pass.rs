@@ -196,7 +196,9 @@ fn base_table(setup: &Setup) -> [Granted; 16] {
 
 /// All rights of the levels where `on` is set.
 fn of_levels(on: [bool; 2]) -> u8 {
-    u8::from(on[0]) * LEVEL | u8::from(on[1]) * (LEVEL << 3)
+    let privileged = if on[0] { LEVEL } else { 0 };
+    let unprivileged = if on[1] { LEVEL << 3 } else { 0 };
+    privileged | unprivileged
 }
 
 /// What the overlays do at each POIndex; an overlay that is off grants everything.

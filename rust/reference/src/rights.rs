@@ -233,7 +233,7 @@ pub(crate) fn slot_rights(slot: u8) -> Result<u8, u8> {
     let read = slot & 1;
     let execute = slot >> 1 & 1;
     let write = slot >> 2 & 1;
-    Ok(read * PR | write * PW | execute * PX)
+    Ok(read | write << 1 | execute << 2)
 }
 
 fn stage2(descriptor: Stage2Descriptor, access: Access) -> Result<(), Stop> {

@@ -2,6 +2,7 @@
 
 use crate::{control::*, judge, list, plan, rights, Kind, Memory, Refusal, Stop};
 use crate::{register, LEAF_BYTES, MOST_LEAVES, SETUP_BYTES};
+use numbers::Numbers;
 use std::vec::Vec;
 
 fn setup(control: u32, registers: [u64; 6]) -> [u8; SETUP_BYTES] {
@@ -154,52 +155,36 @@ fn one_refusal_of_each_number() {
     assert_eq!(judge(&table_setup(0), &[], 0), Err(Stop::Refused(13)));
 }
 
-/// Numbers in a fixed order (SplitMix64).
-struct Numbers(u64);
-
-impl Numbers {
-    fn next(&mut self) -> u64 {
-        self.0 = self.0.wrapping_add(0x9E37_79B9_7F4A_7C15);
-        let mixed = (self.0 ^ self.0 >> 30).wrapping_mul(0xBF58_476D_1CE4_E5B9);
-        let mixed = (mixed ^ mixed >> 27).wrapping_mul(0x94D0_49BB_1331_11EB);
-        mixed ^ mixed >> 31
+/// A setup that 1, 2 and 3 may refuse, with registers whose codes are mostly not reserved.
+fn some_setup(numbers: &mut Numbers) -> [u8; SETUP_BYTES] {
+    let mut registers = [0; 6];
+    for (place, register) in registers.iter_mut().enumerate() {
+        *register = match place {
+            register::MAIR | register::MAIR2 => numbers.next() | 0x1111_1111_1111,
+            _ => numbers.next() & (numbers.next() | 0x7777_7777_7777_7777),
+        };
     }
+    let likely = TWO_LEVELS | STAGE1;
+    let control = numbers.next() as u32 & (KNOWN & !(DC | WXN | PAN)) | likely;
+    setup(control ^ 1 << numbers.below(24), registers)
+}
 
-    /// A setup that 1, 2 and 3 may refuse, with registers whose codes are mostly not reserved.
-    fn setup(&mut self) -> [u8; SETUP_BYTES] {
-        let mut registers = [0; 6];
-        for (place, register) in registers.iter_mut().enumerate() {
-            *register = match place {
-                register::MAIR | register::MAIR2 => self.next() | 0x1111_1111_1111,
-                _ => self.next() & (self.next() | 0x7777_7777_7777_7777),
-            };
-        }
-        let likely = TWO_LEVELS | STAGE1;
-        let control = self.next() as u32 & (KNOWN & !(DC | WXN | PAN)) | likely;
-        setup(control ^ (1 << (self.next() % 24)), registers)
-    }
-
-    fn leaf(&mut self) -> [u8; LEAF_BYTES] {
-        let dirty = 1 << 51 | 1 << 7;
-        let first = self.next() & !(dirty & self.next()) | 0x601;
-        let second = self.next() & !(1 << 51) | 0x609;
-        leaf(
-            first,
-            second,
-            self.next() as u8 & 15,
-            self.next() as u8 & 63,
-        )
-    }
+fn some_leaf(numbers: &mut Numbers) -> [u8; LEAF_BYTES] {
+    let dirty = 1 << 51 | 1 << 7;
+    let first = numbers.next() & !(dirty & numbers.next()) | 0x601;
+    let second = numbers.next() & !(1 << 51) | 0x609;
+    let (limits, forbidden) = (numbers.below(16), numbers.below(64));
+    leaf(first, second, limits as u8, forbidden as u8)
 }
 
 /// The list's rights are those of the single accesses, refusals too.
 #[test]
 fn list_against_single_accesses() {
-    let mut numbers = Numbers(1);
+    let mut numbers = Numbers::new(1);
     let mut done = 0;
     for _ in 0..200_000 {
-        let setup = numbers.setup();
-        let leaf = numbers.leaf();
+        let setup = some_setup(&mut numbers);
+        let leaf = some_leaf(&mut numbers);
         let mut out = [0];
         let found = list(&setup, &leaf, &mut out)
             .map(|_| out[0])
@@ -213,10 +198,10 @@ fn list_against_single_accesses() {
 /// A separating register found by trying each value of the one slot in use.
 #[test]
 fn plan_against_every_slot_value() {
-    let mut numbers = Numbers(2);
+    let mut numbers = Numbers::new(2);
     let mut planned = 0;
     for _ in 0..50_000 {
-        let (setup, leaf) = (numbers.setup(), numbers.leaf());
+        let (setup, leaf) = (some_setup(&mut numbers), some_leaf(&mut numbers));
         for level in 0..2 {
             let Ok(register) = plan(&setup, level, &leaf) else {
                 continue;
