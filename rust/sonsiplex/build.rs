@@ -1,4 +1,5 @@
-//! Links the static library of the proved judge, from `SONSIPLEX_LIB_DIR` or the repository's `target/staticlib`.
+//! Links the static library of the proved judge, from `SONSIPLEX_LIB_DIR` or the repository's
+//! `target/staticlib`.
 
 use std::env;
 use std::path::PathBuf;

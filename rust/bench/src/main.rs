@@ -13,9 +13,9 @@ use std::time::Instant;
 use work::{Function, Mode, Side, Work, MODES};
 
 /// Timed runs of each side.
-const RUNS: usize = 301;
-/// Calls in a timed run.
-const CALLS: u32 = 20;
+const RUNS: usize = 1001;
+/// Calls in a timed run: few, so that most runs are not interrupted.
+const CALLS: u32 = 4;
 
 fn main() -> ExitCode {
     let arguments: Vec<String> = env::args().skip(1).collect();

@@ -22,6 +22,13 @@ pub fn set_register(setup: &mut Setup, place: usize, value: u64) {
     setup[4 + 8 * place..12 + 8 * place].copy_from_slice(&value.to_le_bytes());
 }
 
+/// A setup of its control word, with all registers 0.
+pub fn setup_of(control: u32) -> Setup {
+    let mut setup = [0; SETUP_BYTES];
+    setup[..4].copy_from_slice(&control.to_le_bytes());
+    setup
+}
+
 /// A setup of any kind, refused ones included.
 pub fn any_setup(numbers: &mut Numbers) -> Setup {
     let mut control = control(numbers);
@@ -76,8 +83,7 @@ fn control(numbers: &mut Numbers) -> u32 {
 }
 
 fn setup(numbers: &mut Numbers, control: u32) -> Setup {
-    let mut setup = [0; SETUP_BYTES];
-    setup[..4].copy_from_slice(&control.to_le_bytes());
+    let mut setup = setup_of(control);
     let raw = numbers.percent(4);
     for place in register::MAIR..=register::POR_UNPRIVILEGED {
         let value = match place {
@@ -150,7 +156,8 @@ pub fn any_leaf(numbers: &mut Numbers, setup: &Setup) -> Leaf {
     )
 }
 
-fn leaf(stage1: u64, stage2: u64, limits: u8, forbidden: u8) -> Leaf {
+/// A leaf of its fields.
+pub fn leaf(stage1: u64, stage2: u64, limits: u8, forbidden: u8) -> Leaf {
     let mut leaf = [0; LEAF_BYTES];
     leaf[..8].copy_from_slice(&stage1.to_le_bytes());
     leaf[8..16].copy_from_slice(&stage2.to_le_bytes());

@@ -3,7 +3,7 @@
 //! `SONSIPLEX_SEED` gives another seed (decimal), `SONSIPLEX_TIMES` multiplies the number of cases.
 
 pub mod brute;
-pub mod expect;
+pub mod compare;
 pub mod generate;
 pub mod tally;
 

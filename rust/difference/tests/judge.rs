@@ -1,9 +1,8 @@
 //! Single accesses: the library against the reference.
 
-use difference::{expect, generate, seed, tally::Tally, times};
+use difference::{compare, generate, seed, tally::Tally, times};
 use numbers::Numbers;
 use reference::{Memory, Stop};
-use sonsiplex::{packed, Judgement};
 
 /// Setups with leaves; each is judged for all six accesses and one other number.
 const CASES: u64 = 1_000_000;
@@ -110,37 +109,6 @@ fn kind_name(kind: reference::Kind) -> &'static str {
     }
 }
 
-/// Whether the wrapper's answer has the same values.
-fn same(wrapped: Result<Judgement, sonsiplex::Refusal>, answer: Result<Memory, Stop>) -> bool {
-    match (wrapped, answer) {
-        (Ok(Judgement::Allowed(found)), Ok(memory)) => {
-            (found.byte, found.shareability as u8) == (memory.byte, memory.shareability)
-        }
-        (Ok(Judgement::Fault(found)), Err(Stop::Fault(stage, kind))) => {
-            (found.stage as u8, found.kind as u8) == (stage, kind as u8)
-        }
-        (Err(found), Err(Stop::Refused(number))) => {
-            (found.number as u8, found.leaf) == (number, None)
-        }
-        _ => false,
-    }
-}
-
-/// Compares both judges on one access and gives the answer.
-fn compare(setup: &[u8], leaf: &[u8], access: u64) -> Result<Memory, Stop> {
-    let answer = reference::judge(setup, leaf, access);
-    let found = packed::judge(setup, leaf, access);
-    let wrapped = packed::unpack_judge(found);
-    assert!(
-        found == expect::judge(answer) && same(wrapped, answer),
-        "setup {}\nleaf {}\naccess {access}\nlibrary {found:#018x}\nreference {:#018x} {answer:?}",
-        expect::hex(setup),
-        expect::hex(leaf),
-        expect::judge(answer),
-    );
-    answer
-}
-
 /// An access number that is mostly out of range.
 fn other_access(numbers: &mut Numbers) -> u64 {
     match numbers.below(4) {
@@ -158,9 +126,9 @@ fn compare_lengths(numbers: &mut Numbers, setup: &[u8], leaf: &[u8], tally: &mut
     let setup_length = generate::wrong_length(numbers, setup.len());
     let leaf_length = generate::wrong_length(numbers, leaf.len());
     let access = other_access(numbers);
-    tally.count(class(compare(&bytes[..setup_length], leaf, access)));
+    tally.count(class(compare::judge(&bytes[..setup_length], leaf, access)));
     bytes[..leaf.len()].copy_from_slice(leaf);
-    tally.count(class(compare(setup, &bytes[..leaf_length], access)));
+    tally.count(class(compare::judge(setup, &bytes[..leaf_length], access)));
 }
 
 #[test]
@@ -172,10 +140,10 @@ fn judge() {
         let setup = generate::any_setup(&mut numbers);
         let leaf = generate::any_leaf(&mut numbers, &setup);
         for access in 0..6 {
-            tally.count(class(compare(&setup, &leaf, access)));
+            tally.count(class(compare::judge(&setup, &leaf, access)));
         }
         let other = other_access(&mut numbers);
-        tally.count(class(compare(&setup, &leaf, other)));
+        tally.count(class(compare::judge(&setup, &leaf, other)));
         judgements += 7;
         if numbers.percent(2) {
             compare_lengths(&mut numbers, &setup, &leaf, &mut tally);

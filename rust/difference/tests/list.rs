@@ -1,10 +1,9 @@
 //! Lists: the library against the reference, and what is left of the output buffer.
 
 use difference::generate::{self, Leaf, Setup};
-use difference::{expect, seed, tally::Tally, times};
+use difference::{compare, seed, tally::Tally, times};
 use numbers::Numbers;
 use reference::{Refusal, LEAF_BYTES, MOST_LEAVES, SETUP_BYTES};
-use sonsiplex::packed;
 
 const LISTS: u64 = 100_000;
 /// Bytes before and after the output that no call may change.
@@ -129,31 +128,6 @@ fn case(numbers: &mut Numbers) -> Case {
     }
 }
 
-/// Compares both lists and their buffers, margins included, and gives the answer and the buffer.
-fn compare(case: &Case) -> (Result<usize, Refusal>, Vec<u8>) {
-    let place = MARGIN..MARGIN + case.out;
-    let mut expected = case.buffer.clone();
-    let answer = reference::list(&case.setup, &case.leaves, &mut expected[place.clone()]);
-    let written = answer.unwrap_or(0);
-    assert_eq!(
-        expected[MARGIN + written..],
-        case.buffer[MARGIN + written..]
-    );
-    let mut buffer = case.buffer.clone();
-    let found = packed::list(&case.setup, &case.leaves, &mut buffer[place]);
-    assert!(
-        found == expect::list(answer) && buffer == expected,
-        "setup {}\nleaves {}\nlibrary {found:#018x} {}\nreference {:#018x} {}",
-        expect::hex(&case.setup),
-        expect::hex(&case.leaves),
-        expect::hex(&buffer),
-        expect::list(answer),
-        expect::hex(&expected),
-    );
-    assert_eq!(packed::unpack_list(found).ok(), answer.ok());
-    (answer, buffer)
-}
-
 fn count_answer(tally: &mut Tally<Class>, case: &Case, answer: Result<usize, Refusal>) {
     let leaves = case.leaves.len() / LEAF_BYTES;
     match answer {
@@ -193,7 +167,7 @@ fn list() {
     let mut leaves = 0;
     for _ in 0..times(LISTS) {
         let case = case(&mut numbers);
-        let (answer, buffer) = compare(&case);
+        let (answer, buffer) = compare::list(&case.setup, &case.leaves, &case.buffer, MARGIN);
         count_answer(&mut tally, &case, answer);
         let written = answer.unwrap_or(0);
         for rights in &buffer[MARGIN..MARGIN + written] {

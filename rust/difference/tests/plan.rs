@@ -1,10 +1,9 @@
 //! Plans: the library against the reference, and both against brute force.
 
 use difference::generate::{self, control_of, Leaf, Setup};
-use difference::{brute, expect, seed, tally::Tally, times};
+use difference::{brute, compare, seed, tally::Tally, times};
 use numbers::Numbers;
 use reference::{Refusal, LEAF_BYTES, MOST_LEAVES, SETUP_BYTES};
-use sonsiplex::packed;
 
 const PLANS: u64 = 60_000;
 
@@ -124,27 +123,9 @@ fn case(numbers: &mut Numbers) -> Case {
     }
 }
 
-/// Compares both planners and gives the answer.
-fn compare(case: &Case) -> Result<u64, Refusal> {
-    let answer = reference::plan(&case.setup, case.level, &case.leaves);
-    let found = packed::plan(&case.setup, case.level, &case.leaves);
-    assert!(
-        found == expect::plan(answer),
-        "library {found:#018x}\nreference {:#018x}\n{}",
-        expect::plan(answer),
-        words(case),
-    );
-    assert_eq!(packed::unpack_plan(found).ok(), answer.ok());
-    answer
-}
-
 fn words(case: &Case) -> String {
-    format!(
-        "setup {}\nlevel {}\nleaves {}",
-        expect::hex(&case.setup),
-        case.level,
-        expect::hex(&case.leaves),
-    )
+    let words = compare::words(&case.setup, &case.leaves);
+    format!("level {}\n{words}", case.level)
 }
 
 /// Compares an answer past the first checks with brute force over the values of each slot.
@@ -223,7 +204,7 @@ fn plan() {
     let mut tally = Tally::new("plan", classes());
     for _ in 0..times(PLANS) {
         let case = case(&mut numbers);
-        let answer = compare(&case);
+        let answer = compare::plan(&case.setup, case.level, &case.leaves);
         count_answer(&mut tally, &case, answer);
         compare_brute(&case, answer);
         if let Some(class) = compare_every(&mut numbers, &case, answer) {
@@ -233,10 +214,16 @@ fn plan() {
     tally.finish(&format!("{} plans, no difference", times(PLANS)));
 }
 
-/// The generator's setups for a plan have the level's overlay on and pass 1, 2 and 3.
+/// The generator keeps its word: accepted setups pass 1, 2 and 3, and those for a plan have the
+/// level's overlay on.
 #[test]
-fn overlay_setups_are_accepted() {
+fn setups_are_accepted() {
     let mut numbers = Numbers::new(seed(4));
+    for _ in 0..20_000 {
+        let setup = generate::accepted_setup(&mut numbers);
+        let answer = reference::list(&setup, &[], &mut []);
+        assert_eq!(answer, Ok(0), "{:#x}", control_of(&setup));
+    }
     for level in [0, 1] {
         for _ in 0..10_000 {
             let setup = generate::overlay_setup(&mut numbers, level);

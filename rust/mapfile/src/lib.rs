@@ -20,11 +20,12 @@
 //! |---|---|
 //! | `setup` | opens the setup; the first line, and there is one |
 //! | `control WORD ..` | control bits: names, and hex numbers with `0x` for bits without one |
-//! | `REGISTER HEX` | `mair`, `mair2`, `pir-privileged`, `pir-unprivileged`, `por-privileged`, `por-unprivileged` |
+//! | `REGISTER HEX` | a register of the setup |
 //! | `leaf FIELD=HEX ..` | a leaf: `stage1`, `stage2`, `limits`, `forbidden` |
 //! | `bytes HEX ..` | these bytes, as they stand; for damaged files |
 //!
-//! Names of control bits, from bit 0: `two-levels`, `stage1`, `stage2`, `indirect`,
+//! Names of registers: `mair`, `mair2`, `pir-privileged`, `pir-unprivileged`, `por-privileged`,
+//! `por-unprivileged`. Names of control bits, from bit 0: `two-levels`, `stage1`, `stage2`, `indirect`,
 //! `privileged-overlay`, `unprivileged-overlay`, `wxn`, `pan`, `limits-disabled`, `fwb`, `dc`,
 //! `instruction-cacheable`, `aie`.
 //!

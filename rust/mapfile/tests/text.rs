@@ -138,70 +138,72 @@ fn shown_text() {
     assert!(nothing.starts_with("setup\n  control 0x0\n"));
 }
 
+/// Each wrong text with its error.
+const WRONG: [(&str, &str); 29] = [
+    ("", "line 1: no setup"),
+    ("# nothing\n\n", "line 2: no setup"),
+    ("leaf stage1=1", "line 1: 'leaf' before the setup"),
+    ("\nmair 0\nsetup", "line 2: 'mair' before the setup"),
+    ("setup now", "line 1: words after 'setup'"),
+    ("setup\nsetup", "line 2: 'setup' a second time"),
+    (
+        "setup\nleaf\nmair 0",
+        "line 3: 'mair' after the setup's end",
+    ),
+    (
+        "setup\nbytes 1\ncontrol pan",
+        "line 3: 'control' after the setup's end",
+    ),
+    ("setup\npage 1", "line 2: unknown word 'page'"),
+    ("setup\nmair", "line 2: 'mair' takes one hex number"),
+    ("setup\nmair 1 2", "line 2: 'mair' takes one hex number"),
+    ("setup\nmair 1\nmair 1", "line 3: 'mair' a second time"),
+    ("setup\nmair 1g", "line 2: '1g' is not a hex number"),
+    ("setup\nmair 0x", "line 2: '0x' is not a hex number"),
+    ("setup\nmair +1", "line 2: '+1' is not a hex number"),
+    (
+        "setup\nmair 10000000000000000",
+        "line 2: '10000000000000000' has more than 64 bits",
+    ),
+    (
+        "setup\ncontrol",
+        "line 2: 'control' takes names of bits or hex numbers with 0x",
+    ),
+    (
+        "setup\ncontrol stage3",
+        "line 2: unknown control bit 'stage3'",
+    ),
+    ("setup\ncontrol 2b", "line 2: unknown control bit '2b'"),
+    (
+        "setup\ncontrol 0x100000000",
+        "line 2: '0x100000000' has more than 32 bits",
+    ),
+    (
+        "setup\ncontrol stage1 0x3",
+        "line 2: control bit of '0x3' a second time",
+    ),
+    (
+        "setup\ncontrol pan\ncontrol wxn",
+        "line 3: 'control' a second time",
+    ),
+    ("setup\nleaf 747", "line 2: '747' is not FIELD=HEX"),
+    ("setup\nleaf stage3=0", "line 2: unknown field 'stage3'"),
+    ("setup\nleaf stage1=", "line 2: '' is not a hex number"),
+    (
+        "setup\nleaf limits=100",
+        "line 2: '100' has more than 8 bits",
+    ),
+    (
+        "setup\nleaf limits=1 limits=1",
+        "line 2: 'limits' a second time",
+    ),
+    ("setup\nbytes", "line 2: no byte after 'bytes'"),
+    ("setup\nbytes 100", "line 2: '100' has more than 8 bits"),
+];
+
 #[test]
 fn each_text_error_names_its_line() {
-    let cases = [
-        ("", "line 1: no setup"),
-        ("# nothing\n\n", "line 2: no setup"),
-        ("leaf stage1=1", "line 1: 'leaf' before the setup"),
-        ("\nmair 0\nsetup", "line 2: 'mair' before the setup"),
-        ("setup now", "line 1: words after 'setup'"),
-        ("setup\nsetup", "line 2: 'setup' a second time"),
-        (
-            "setup\nleaf\nmair 0",
-            "line 3: 'mair' after the setup's end",
-        ),
-        (
-            "setup\nbytes 1\ncontrol pan",
-            "line 3: 'control' after the setup's end",
-        ),
-        ("setup\npage 1", "line 2: unknown word 'page'"),
-        ("setup\nmair", "line 2: 'mair' takes one hex number"),
-        ("setup\nmair 1 2", "line 2: 'mair' takes one hex number"),
-        ("setup\nmair 1\nmair 1", "line 3: 'mair' a second time"),
-        ("setup\nmair 1g", "line 2: '1g' is not a hex number"),
-        ("setup\nmair 0x", "line 2: '0x' is not a hex number"),
-        ("setup\nmair +1", "line 2: '+1' is not a hex number"),
-        (
-            "setup\nmair 10000000000000000",
-            "line 2: '10000000000000000' has more than 64 bits",
-        ),
-        (
-            "setup\ncontrol",
-            "line 2: 'control' takes names of bits or hex numbers with 0x",
-        ),
-        (
-            "setup\ncontrol stage3",
-            "line 2: unknown control bit 'stage3'",
-        ),
-        ("setup\ncontrol 2b", "line 2: unknown control bit '2b'"),
-        (
-            "setup\ncontrol 0x100000000",
-            "line 2: '0x100000000' has more than 32 bits",
-        ),
-        (
-            "setup\ncontrol stage1 0x3",
-            "line 2: control bit of '0x3' a second time",
-        ),
-        (
-            "setup\ncontrol pan\ncontrol wxn",
-            "line 3: 'control' a second time",
-        ),
-        ("setup\nleaf 747", "line 2: '747' is not FIELD=HEX"),
-        ("setup\nleaf stage3=0", "line 2: unknown field 'stage3'"),
-        ("setup\nleaf stage1=", "line 2: '' is not a hex number"),
-        (
-            "setup\nleaf limits=100",
-            "line 2: '100' has more than 8 bits",
-        ),
-        (
-            "setup\nleaf limits=1 limits=1",
-            "line 2: 'limits' a second time",
-        ),
-        ("setup\nbytes", "line 2: no byte after 'bytes'"),
-        ("setup\nbytes 100", "line 2: '100' has more than 8 bits"),
-    ];
-    for (text, error) in cases {
+    for (text, error) in WRONG {
         assert_eq!(assemble(text).unwrap_err().to_string(), error, "{text:?}");
     }
     let long = format!("setup\n{}", "leaf\n".repeat(2049));

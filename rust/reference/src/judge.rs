@@ -5,7 +5,8 @@ use crate::records::{control, Leaf, Setup, LEAF_BYTES};
 use crate::rights::{stages, Access};
 use crate::Stop;
 
-/// Answers one access: 13, 1, 2, 3, 4, 5, the stages, then 8, 8, 9 and the memory. The first that applies is the answer.
+/// Answers one access: 13, 1, 2, 3, 4, 5, the stages, then 8, 8, 9 and the memory. The first that
+/// applies is the answer.
 pub fn judge(setup: &[u8], leaf: &[u8], access: u64) -> Result<Memory, Stop> {
     let decoded = Setup::decode(setup).map_err(Stop::Refused)?;
     let leaf: &[u8; LEAF_BYTES] = leaf.try_into().map_err(|_| Stop::Refused(13))?;
@@ -22,8 +23,8 @@ pub(crate) fn judge_access(setup: &Setup, leaf: &Leaf, access: Access) -> Result
     memory(setup, leaf, access)
 }
 
-/// A leaf's rights by its definition: six judgements, three with one level; the lowest refused access refuses the leaf.
-/// Records of the wrong length give 13.
+/// A leaf's rights by its definition: six judgements, three with one level; the lowest refused
+/// access refuses the leaf. Records of the wrong length give 13.
 pub fn rights(setup: &[u8], leaf: &[u8]) -> Result<u8, u8> {
     let two_levels = Setup::decode(setup)?.has(control::TWO_LEVELS);
     let mut rights = 0;

@@ -1,8 +1,8 @@
 //! Judge, list and planner written from document 01 alone, to compare the proved library with.
 //!
-//! [`judge`] answers one access and follows 'The order a judgement is made in' step by step. [`list`] and [`plan`] make one
-//! pass over the leaves: tables of the setup are worked out once, and all six rights of a leaf come from one look at it.
-//! Nothing allocates and nothing is unsafe.
+//! [`judge`] answers one access and follows 'The order a judgement is made in' step by step.
+//! [`list`] and [`plan`] make one pass over the leaves: tables of the setup are worked out once,
+//! and all six rights of a leaf come from one look at it. Nothing allocates and nothing is unsafe.
 #![no_std]
 #![forbid(unsafe_code)]
 

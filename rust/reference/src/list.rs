@@ -6,8 +6,9 @@ use crate::records::{control, Leaf, Setup, LEAF_BYTES, MOST_LEAVES};
 use crate::rights::Access;
 use crate::{Refusal, Stop};
 
-/// Writes one rights byte per leaf and gives the leaf count. Checks 13, 1, 2, 3, 11, then the leaves in order. A refusal
-/// changes no byte of `out`; bytes past the leaf count keep their values.
+/// Writes one rights byte per leaf and gives the leaf count. Checks 13, 1, 2, 3, 11, then the
+/// leaves in order. A refusal changes no byte of `out`; bytes past the leaf count keep their
+/// values.
 pub fn list(setup: &[u8], leaves: &[u8], out: &mut [u8]) -> Result<usize, Refusal> {
     let setup = Setup::decode(setup).map_err(Refusal::whole)?;
     setup.check().map_err(Refusal::whole)?;

@@ -1,7 +1,8 @@
-//! A leaf's rights in one pass: what the setup decides is worked out once, in small tables over the descriptor's indices.
+//! A leaf's rights in one pass: what the setup decides is worked out once, in small tables over the
+//! descriptor's indices.
 //!
-//! A pass tells whether some access is refused, not with which number: a refused leaf ends a list or a plan, so its number is
-//! then read off the single accesses.
+//! A pass tells whether some access is refused, not with which number: a refused leaf ends a list
+//! or a plan, so its number is then read off the single accesses.
 
 use crate::memory::{byte_is_known, mem_attr_is_known};
 use crate::records::{control, Leaf, PIIndex, POIndex, Setup, Stage2Descriptor};
@@ -113,7 +114,8 @@ impl Pass {
         (!refused).then_some(rights)
     }
 
-    /// What stage 1 grants before overlays, and whether its dirty state or base codes refuse the leaf.
+    /// What stage 1 grants before overlays, and whether its dirty state or base codes refuse the
+    /// leaf.
     #[inline(always)]
     pub(crate) fn stage1(&self, leaf: &Leaf) -> Granted {
         let descriptor = leaf.stage1;

@@ -9,10 +9,12 @@ use crate::{Refusal, Stop};
 /// The usable register that grants the most.
 const MOST: u64 = 0x7777_7777;
 
-/// Slot bits (bit 0 R, bit 1 X, bit 2 W) of a set of rights of one level (bit 0 read, bit 1 write, bit 2 execute).
+/// Slot bits (bit 0 R, bit 1 X, bit 2 W) of a set of rights of one level (bit 0 read, bit 1 write,
+/// bit 2 execute).
 static SLOT_BITS: [u8; 8] = [0, 1, 4, 5, 2, 3, 6, 7];
 
-/// Plans the POR of a level (0 privileged, 1 unprivileged). Checks 13, 1, 2, 3, 4, 12, 11; then each leaf for 5, 6 and 7; then 10.
+/// Plans the POR of a level (0 privileged, 1 unprivileged). Checks 13, 1, 2, 3, 4, 12, 11; then
+/// each leaf for 5, 6 and 7; then 10.
 pub fn plan(setup: &[u8], level: u64, leaves: &[u8]) -> Result<u64, Refusal> {
     let mut setup = Setup::decode(setup).map_err(Refusal::whole)?;
     setup.check().map_err(Refusal::whole)?;
@@ -69,7 +71,8 @@ fn open(pass: &Pass, leaf: &Leaf, level: usize) -> Option<Open> {
     })
 }
 
-/// The number that refuses a leaf for a level whose POR has been replaced: 5, else that of its lowest refused access.
+/// The number that refuses a leaf for a level whose POR has been replaced: 5, else that of its
+/// lowest refused access.
 #[cold]
 fn refusal(setup: &Setup, leaf: &Leaf, level: usize) -> u8 {
     if leaf.out_of_range() {

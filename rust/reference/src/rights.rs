@@ -1,4 +1,5 @@
-//! Permissions of both stages ('Stage 1 rights', 'Stage 2 rights'). A set of rights is a byte with a bit for each access.
+//! Permissions of both stages ('Stage 1 rights', 'Stage 2 rights'). A set of rights is a byte with
+//! a bit for each access.
 
 use crate::records::{control, Leaf, PIIndex, POIndex, Setup, Stage1Descriptor, Stage2Descriptor};
 use crate::{Kind, Stop};
@@ -183,7 +184,8 @@ const fn direct_one_level(descriptor: u8, limits: u8) -> u8 {
     rights
 }
 
-/// The rights of a base code, as those of the privileged level, or 6 where it is reserved. Code 6 has none here: see [`indirect`].
+/// The rights of a base code, as those of the privileged level, or 6 where it is reserved. Code 6
+/// has none here: see [`indirect`].
 fn code_rights(code: u8) -> Result<u8, u8> {
     match code {
         0 | 6 => Ok(0),
@@ -196,7 +198,8 @@ fn code_rights(code: u8) -> Result<u8, u8> {
     }
 }
 
-/// Base rights under Indirect: 6 where a code is reserved, then 7 for code 6 and for px together with uw.
+/// Base rights under Indirect: 6 where a code is reserved, then 7 for code 6 and for px together
+/// with uw.
 pub(crate) fn indirect(setup: &Setup, index: PIIndex) -> Result<Base, u8> {
     let privileged = index.code(setup.pir[0]);
     // With one level PIR unprivileged is not read; code 0 grants nothing.
