@@ -78,27 +78,30 @@ fn direct_forms() {
 fn base_codes_and_slots() {
     let bits = [TWO_LEVELS, PRIVILEGED_OVERLAY, UNPRIVILEGED_OVERLAY];
     for (choice, codes) in product(0..8, 0..256) {
-        let (pi, po) = (codes % 16 + codes / 16, codes / 2);
-        let (pi, po) = (pi % 16, po % 8);
+        let (pi, po) = ((codes % 16 + codes / 16) % 16, codes / 2 % 8);
         let mut setup = setup_of(STAGE1 | INDIRECT | choose(&bits, choice));
-        let others = u64::MAX & !(15 << (4 * pi));
         set_register(
             &mut setup,
             register::PIR_PRIVILEGED,
-            others | (codes & 15) << (4 * pi),
+            among_reserved(codes & 15, pi),
         );
         set_register(
             &mut setup,
             register::PIR_UNPRIVILEGED,
-            others | (codes >> 4) << (4 * pi),
+            among_reserved(codes >> 4, pi),
         );
         let leaf = leaf(indirect_descriptor(pi, po), 0, 0, 63);
         for slots in 0..256 {
-            let others = u64::MAX & !(15 << (4 * po));
-            let [privileged, unprivileged] =
-                [slots & 15, slots >> 4].map(|v| others | v << (4 * po));
-            set_register(&mut setup, register::POR_PRIVILEGED, privileged);
-            set_register(&mut setup, register::POR_UNPRIVILEGED, unprivileged);
+            set_register(
+                &mut setup,
+                register::POR_PRIVILEGED,
+                among_reserved(slots & 15, po),
+            );
+            set_register(
+                &mut setup,
+                register::POR_UNPRIVILEGED,
+                among_reserved(slots >> 4, po),
+            );
             for access in ACCESSES {
                 compare::judge(&setup, &leaf, access).ok();
             }
@@ -141,6 +144,11 @@ fn control_words() {
             compare::plan(&setup, level, &leaf).ok();
         }
     }
+}
+
+/// A register with this code at one index and 15, which is reserved, at all others.
+fn among_reserved(code: u64, index: u64) -> u64 {
+    !(15 << (4 * index)) | code << (4 * index)
 }
 
 /// A valid descriptor with AF set and these indices.
