@@ -16,18 +16,18 @@ use Rattle.records.specs.declared.access.Right.{Right}
 use Rattle.records.specs.declared.access.Right.the-variants.{Read, Write, Execute}
 use Rattle.records.specs.declared.leaf.Leaf.{Leaf}
 use Rattle.records.specs.declared.setup.Setup.{Setup}
-use Rattle.rights.proofs.Levels.{refused-permits}
-use Rattle.rights.specs.Answers.{follow, permitted}
-use Rattle.rights.specs.Checks.{setupCheck, accessCheck, leafCheck}
-use Rattle.rights.specs.Level.{unlessRefused, collect, levelOf, levelsOf}
+use Rattle.levels.proofs.Levels.{refused-permits}
+use Rattle.checks.specs.Answers.{follow, permitted}
+use Rattle.checks.specs.Checks.{setupCheck, accessCheck, leafCheck}
+use Rattle.levels.specs.Level.{unlessRefused, collect, levelOf, levelsOf}
 use Rattle.rights.specs.Order.{leafAnswer, rightsAnswer}
-use Rattle.rights.specs.declared.checks.AccessCheck.the-variants as access
-use Rattle.rights.specs.Overlay.{three}
-use Rattle.rights.specs.declared.answer.Answer.{Answer}
-use Rattle.rights.specs.declared.answer.Answer.the-variants as answer
-use Rattle.rights.specs.declared.stages.LevelAnswer.{LevelAnswer}
-use Rattle.rights.specs.declared.stages.LevelAnswer.the-variants as level
-use Rattle.rights.specs.declared.stages.LevelRights.{LevelRights}
+use Rattle.checks.specs.declared.checks.AccessCheck.the-variants as access
+use Rattle.stages.specs.Overlay.{three}
+use Rattle.checks.specs.declared.answer.Answer.{Answer}
+use Rattle.checks.specs.declared.answer.Answer.the-variants as answer
+use Rattle.stages.specs.declared.level.LevelAnswer.{LevelAnswer}
+use Rattle.stages.specs.declared.level.LevelAnswer.the-variants as level
+use Rattle.stages.specs.declared.level.LevelRights.{LevelRights}
 use Rattle.attributes.proofs.Laws.{passes, refuses}
 use Rattle.attributes.specs.Order.{attributesOf, checkOf}
 use Rattle.attributes.specs.declared.Check.{Check}

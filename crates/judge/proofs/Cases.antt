@@ -6,9 +6,10 @@ use Rattle.records.specs.Leaf.{leafOf, readLeaf, limitsOf, stage1Of, stage2Of}
 use Rattle.records.specs.Setup.{controlOf, setupOf, readSetup}
 use Rattle.base.specs.Base.{baseOf}
 use Rattle.base.specs.Direct.{ap, directTwo, directOne, directOf}
-use Rattle.rights.specs.Checks.{setupCheck, accessCheck, leafCheck}
-use Rattle.rights.specs.Order.{stage1Answer, stagesAnswer, rightsAnswer}
-use Rattle.rights.specs.Stage2.{xnPx, xnUx, stage2Rights, stage2Answer}
+use Rattle.checks.specs.Checks.{setupCheck, accessCheck, leafCheck}
+use Rattle.stages.specs.Stage1.{stage1Answer}
+use Rattle.rights.specs.Order.{stagesAnswer, rightsAnswer}
+use Rattle.stages.specs.Stage2.{xnPx, xnUx, stage2Rights, stage2Answer}
 use Rattle.attributes.specs.Combine.{combine, resultOf, resultByte}
 use Rattle.attributes.specs.Mair.{mairByte, offByte, stage1Byte, reservedByte}
 use Rattle.attributes.specs.Order.{memoryOf, attributesOf}

@@ -21,14 +21,14 @@ use Rattle.records.specs.declared.setup.Setup.{Setup}
 use Rattle.records.specs.declared.setup.SetupRead.{SetupRead}
 use Rattle.records.specs.declared.setup.SetupRead.the-variants as setup
 use Rattle.rights.proofs.Named.{Named, permits, faults, refuses, named, stages-answer}
-use Rattle.rights.specs.Answers.{follow}
-use Rattle.rights.specs.Checks.{setupCheck}
+use Rattle.checks.specs.Answers.{follow}
+use Rattle.checks.specs.Checks.{setupCheck}
 use Rattle.rights.specs.Order.{stagesAnswer, leafAnswer, rightsAnswer}
-use Rattle.rights.specs.declared.answer.Answer.{Answer}
-use Rattle.rights.specs.declared.answer.Answer.the-variants as answer
-use Rattle.rights.specs.declared.answer.Fault.{Fault}
-use Rattle.rights.specs.declared.answer.Kind.{Kind}
-use Rattle.rights.specs.declared.answer.Kind.the-variants.{Translation, AccessFlag, Permission, Overlay}
+use Rattle.checks.specs.declared.answer.Answer.{Answer}
+use Rattle.checks.specs.declared.answer.Answer.the-variants as answer
+use Rattle.checks.specs.declared.answer.Fault.{Fault}
+use Rattle.checks.specs.declared.answer.Kind.{Kind}
+use Rattle.checks.specs.declared.answer.Kind.the-variants.{Translation, AccessFlag, Permission, Overlay}
 use Rattle.attributes.proofs.Laws.{passes, refuses as attributes-refuse, eight-or-nine}
 use Rattle.attributes.specs.Order.{memoryOf, attributesOf, checkOf}
 use Rattle.attributes.specs.declared.Attributes.{Attributes}

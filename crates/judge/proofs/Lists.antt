@@ -11,10 +11,10 @@ use denote.Enum.Declared.{tagOf}
 use Rattle.records.specs.Setup.{readSetup}
 use Rattle.records.specs.declared.setup.Setup.{Setup}
 use Rattle.records.specs.declared.setup.SetupRead.{SetupRead}
-use Rattle.rights.specs.Checks.{setupCheck}
-use Rattle.rights.specs.declared.answer.Answer.{Answer}
-use Rattle.rights.specs.declared.answer.Answer.the-variants as answer
-use Rattle.rights.proofs.answer.Answer.{the-type}
+use Rattle.checks.specs.Checks.{setupCheck}
+use Rattle.checks.specs.declared.answer.Answer.{Answer}
+use Rattle.checks.specs.declared.answer.Answer.the-variants as answer
+use Rattle.checks.proofs.answer.Answer.{the-type}
 use Rattle.judge.proofs.Agree.{agree}
 use Rattle.judge.proofs.Demands.{list-met}
 use Rattle.judge.proofs.Walks.{same-walk}

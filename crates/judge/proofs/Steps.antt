@@ -10,9 +10,9 @@ use Rattle.records.specs.Leaf.{readLeaf}
 use Rattle.records.specs.Setup.{readSetup}
 use Rattle.records.specs.declared.leaf.LeafRead.{LeafRead}
 use Rattle.records.specs.declared.setup.SetupRead.{SetupRead}
-use Rattle.rights.specs.declared.answer.Answer.{Answer}
-use Rattle.rights.specs.declared.answer.Answer.the-variants.{Permitted, Fault, Refused}
-use Rattle.rights.proofs.answer.Answer.{the-type}
+use Rattle.checks.specs.declared.answer.Answer.{Answer}
+use Rattle.checks.specs.declared.answer.Answer.the-variants.{Permitted, Fault, Refused}
+use Rattle.checks.proofs.answer.Answer.{the-type}
 use Rattle.judge.specs.Judge.{stopped, after, withSetup, judgeOf}
 use Rattle.judge.specs.Pass.{afterCheck}
 use Rattle.judge.specs.declared.judge.Judgement.{Judgement}

@@ -3,8 +3,8 @@
 use Prim.Native.Nat.{ℕ, zero, suc, _/_, _%_}
 use mathlib.Core.List.{List, [], _∷_, _++_}
 use lib.ListN.{replicate}
-use Rattle.rights.specs.declared.answer.Kind.{Kind}
-use Rattle.rights.specs.declared.answer.Kind.the-variants.{Translation, AccessFlag, Permission}
+use Rattle.checks.specs.declared.answer.Kind.{Kind}
+use Rattle.checks.specs.declared.answer.Kind.the-variants.{Translation, AccessFlag, Permission}
 use Rattle.judge.specs.declared.judge.Judgement.{Judgement}
 use Rattle.judge.specs.declared.judge.Judgement.the-variants.{Allowed, Fault}
 

@@ -14,11 +14,11 @@ use Rattle.records.specs.declared.leaf.Leaf.{Leaf}
 use Rattle.records.specs.declared.leaf.LeafRead.the-variants as leaf
 use Rattle.records.specs.declared.setup.Setup.{Setup}
 use Rattle.records.specs.declared.setup.SetupRead.the-variants as setup
-use Rattle.rights.specs.Order.{stage1Answer}
-use Rattle.rights.specs.Stage2.{stage2Answer}
-use Rattle.rights.specs.declared.answer.Answer.{Answer}
-use Rattle.rights.specs.declared.answer.Answer.the-variants as answer
-use Rattle.rights.specs.declared.answer.Fault.{Fault}
+use Rattle.stages.specs.Stage1.{stage1Answer}
+use Rattle.stages.specs.Stage2.{stage2Answer}
+use Rattle.checks.specs.declared.answer.Answer.{Answer}
+use Rattle.checks.specs.declared.answer.Answer.the-variants as answer
+use Rattle.checks.specs.declared.answer.Fault.{Fault}
 use Rattle.attributes.specs.Order.{memoryOf}
 use Rattle.attributes.specs.declared.Memory.{Memory}
 use Rattle.judge.specs.Answers.{Values, judgementValues}

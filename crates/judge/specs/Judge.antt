@@ -12,8 +12,8 @@ use Rattle.records.specs.declared.setup.Setup.{Setup}
 use Rattle.records.specs.declared.setup.SetupRead.{SetupRead}
 use Rattle.records.specs.declared.setup.SetupRead.the-variants as setup
 use Rattle.rights.specs.Order.{rightsAnswer}
-use Rattle.rights.specs.declared.answer.Answer.{Answer}
-use Rattle.rights.specs.declared.answer.Answer.the-variants as answer
+use Rattle.checks.specs.declared.answer.Answer.{Answer}
+use Rattle.checks.specs.declared.answer.Answer.the-variants as answer
 use Rattle.attributes.specs.Order.{attributesOf}
 use Rattle.attributes.specs.declared.Attributes.{Attributes}
 use Rattle.attributes.specs.declared.Attributes.the-variants as attributes

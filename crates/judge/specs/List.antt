@@ -12,9 +12,9 @@ use Rattle.records.specs.declared.leaf.Leaf.{Leaf}
 use Rattle.records.specs.declared.setup.Setup.{Setup}
 use Rattle.records.specs.declared.setup.SetupRead.{SetupRead}
 use Rattle.records.specs.declared.setup.SetupRead.the-variants as setup
-use Rattle.rights.specs.Checks.{setupCheck}
-use Rattle.rights.specs.declared.answer.Answer.{Answer}
-use Rattle.rights.specs.declared.answer.Answer.the-variants as answer
+use Rattle.checks.specs.Checks.{setupCheck}
+use Rattle.checks.specs.declared.answer.Answer.{Answer}
+use Rattle.checks.specs.declared.answer.Answer.the-variants as answer
 use Rattle.judge.specs.LeafRights.{leafRights}
 use Rattle.judge.specs.declared.leaf.LeafRights.{LeafRights}
 use Rattle.judge.specs.declared.leaf.LeafRights.the-variants as leaf

@@ -6,14 +6,14 @@ use lib.Dec.{eqb}
 use Rattle.records.specs.Leaf.{stage1Of, stage2Of, limitsOf}
 use Rattle.records.specs.declared.leaf.Leaf.{Leaf}
 use Rattle.records.specs.declared.setup.Setup.{Setup}
-use Rattle.rights.specs.Checks.{leafCheck}
-use Rattle.rights.specs.Level.{levelsOf}
-use Rattle.rights.specs.declared.answer.Answer.{Answer}
-use Rattle.rights.specs.declared.answer.Answer.the-variants as answer
-use Rattle.rights.specs.declared.level.LeafLevels.{LeafLevels}
-use Rattle.rights.specs.declared.stages.LevelAnswer.{LevelAnswer}
-use Rattle.rights.specs.declared.stages.LevelAnswer.the-variants as level
-use Rattle.rights.specs.declared.stages.LevelRights.{LevelRights}
+use Rattle.checks.specs.Checks.{leafCheck}
+use Rattle.levels.specs.Level.{levelsOf}
+use Rattle.checks.specs.declared.answer.Answer.{Answer}
+use Rattle.checks.specs.declared.answer.Answer.the-variants as answer
+use Rattle.levels.specs.declared.LeafLevels.{LeafLevels}
+use Rattle.stages.specs.declared.level.LevelAnswer.{LevelAnswer}
+use Rattle.stages.specs.declared.level.LevelAnswer.the-variants as level
+use Rattle.stages.specs.declared.level.LevelRights.{LevelRights}
 use Rattle.attributes.specs.Order.{checkOf}
 use Rattle.attributes.specs.declared.Check.{Check}
 use Rattle.attributes.specs.declared.Check.the-variants as check

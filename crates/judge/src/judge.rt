@@ -4,12 +4,12 @@ ghost use Rattle.judge.specs.Demands.{JudgeDemands};
 ghost use Rattle.judge.specs.Judge.{stopped, combined, judged, judgeOf};
 use attributes::Attributes;
 use attributes::Memory;
+use checks::answer::Answer;
+use checks::answer::Fault;
 use records::leaf::Leaf;
 use records::leaf::LeafRead;
 use records::setup::Setup;
 use records::setup::SetupRead;
-use rights::answer::Answer;
-use rights::answer::Fault;
 
 // Allowed with byte and SH, a fault with stage and kind, or a refusal's number.
 pub enum Judgement {

@@ -3,12 +3,12 @@ ghost use mathlib.Core.Path.{_≡_};
 ghost use Prim.Native.Nat.{_<_};
 ghost use Rattle.judge.specs.Pass.{one, levelByte, levelPart, Below, passLevels, afterCheck, leafPass};
 use attributes::Check;
+use checks::answer::Answer;
+use levels::LeafLevels;
 use records::leaf::Leaf;
 use records::setup::Setup;
-use rights::answer::Answer;
-use rights::level::LeafLevels;
-use rights::stages::LevelAnswer;
-use rights::stages::LevelRights;
+use stages::level::LevelAnswer;
+use stages::level::LevelRights;
 
 // The rights of a leaf as bits, or a refusal's number.
 pub enum LeafRights {
@@ -83,14 +83,14 @@ fn check_refusal(a: Answer) -> LeafRights
 pub(crate) fn leaf_rights(s: Setup, l: Leaf) -> LeafRights
     ensures { λ x. ⌜ x ≡ leafPass s l ⌝ }
 {
-    let check = rights::checks::check_leaf(l);
+    let check = checks::checks::check_leaf(l);
     let Answer::Permitted = check else {
         return check_refusal(check);
     };
     let one = records::leaf::read_stage1(l.stage1);
     let two = records::leaf::read_stage2(l.stage2);
     let t = records::leaf::read_limits(l.limits);
-    let levels = rights::level::leaf_levels(s, one, two, t);
+    let levels = pass::leaf_levels(s, one, two, t);
     pass_levels(
         s.control.two,
         levels,

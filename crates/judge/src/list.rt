@@ -7,10 +7,10 @@ ghost use Rattle.judge.specs.List.{walk, numberOf, listOf};
 ghost use Rattle.judge.specs.Walked.{passAt, walkIn, refusedOf};
 use crate::leaf::LeafRights;
 use crate::leaf::leaf_rights;
+use checks::answer::Answer;
 use records::leaf::LeafRead;
 use records::setup::Setup;
 use records::setup::SetupRead;
-use rights::answer::Answer;
 
 // The number of leaves whose rights were written; or a refusal's number and the leaf's index, 0 if none is at fault.
 pub enum Listed {
@@ -90,7 +90,7 @@ pub fn list_rights(setup: &[u8], leaves: &[u8], out: &mut [u8]) -> Listed
         };
     };
     let c = s.control;
-    let check = rights::checks::check_setup(c);
+    let check = checks::checks::check_setup(c);
     let Answer::Permitted = check else {
         return Listed::Refused {
             number: number_of(check),

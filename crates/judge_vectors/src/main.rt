@@ -1,10 +1,10 @@
 // Runs the judge and the list on the numbers of document 01 and on edges, and prints the answers. Its expected output is `stdout`.
 ghost use Prim.Native.Nat.{_≤_};
+use checks::answer::Fault;
+use checks::answer::Kind;
 use judge::judge::Judgement;
 use judge::list::Listed;
 use libc::STDOUT_FILENO;
-use rights::answer::Fault;
-use rights::answer::Kind;
 
 fn text(t: &[u8]) {
     io::write_all(STDOUT_FILENO, t);

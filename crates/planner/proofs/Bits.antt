@@ -13,8 +13,8 @@ use Rattle.records.proofs.Cases.{upto, at, each}
 use Rattle.records.specs.Bytes.{bit, nibble}
 use Rattle.records.specs.declared.access.Right.{Right}
 use Rattle.records.specs.declared.access.Right.the-variants.{Read, Write, Execute}
-use Rattle.rights.specs.Overlay.{three, hasRight}
-use Rattle.rights.specs.declared.stages.LevelRights.{LevelRights}
+use Rattle.stages.specs.Overlay.{three, hasRight}
+use Rattle.stages.specs.declared.level.LevelRights.{LevelRights}
 use Rattle.planner.specs.Register.{slotBit, slotNumber, cutMask}
 use Rattle.planner.specs.Plan.{any}
 

@@ -15,15 +15,15 @@ use Rattle.records.specs.declared.access.Right.{Right}
 use Rattle.records.specs.declared.access.Right.the-variants.{Read, Write, Execute}
 use Rattle.records.specs.declared.leaf.Leaf.{Leaf}
 use Rattle.records.specs.declared.setup.Setup.{Setup}
-use Rattle.rights.proofs.Levels.{access-not-refused}
-use Rattle.rights.proofs.Ranges.{open-slot, rights-with}
-use Rattle.rights.specs.Checks.{leafCheck}
-use Rattle.rights.specs.Level.{rangeOf, between}
+use Rattle.levels.proofs.Levels.{access-not-refused}
+use Rattle.levels.proofs.Ranges.{open-slot, rights-with}
+use Rattle.checks.specs.Checks.{leafCheck}
+use Rattle.levels.specs.Level.{rangeOf, between}
 use Rattle.rights.specs.Order.{leafAnswer}
-use Rattle.rights.specs.Register.{put, allOpen}
-use Rattle.rights.specs.declared.answer.Answer.the-variants as answer
-use Rattle.rights.specs.declared.range.LevelRange.{LevelRange}
-use Rattle.rights.specs.declared.range.LevelRange.the-variants as range
+use Rattle.levels.specs.Register.{put, allOpen}
+use Rattle.checks.specs.declared.answer.Answer.the-variants as answer
+use Rattle.levels.specs.declared.LevelRange.{LevelRange}
+use Rattle.levels.specs.declared.LevelRange.the-variants as range
 use Rattle.planner.specs.Demand3.{Passes, Separates, Accepted}
 use Rattle.planner.specs.Plan.{cuts, firstUncured, planOf, registerFor, settled}
 use Rattle.planner.specs.Register.{Usable, accessNumber, packFrom}

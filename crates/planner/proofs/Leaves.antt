@@ -11,16 +11,16 @@ use Rattle.records.specs.declared.leaf.Leaf.{Leaf}
 use Rattle.records.specs.declared.leaf.LeafRead.{LeafRead}
 use Rattle.records.specs.declared.leaf.LeafRead.the-variants as read
 use Rattle.records.specs.declared.setup.Setup.{Setup}
-use Rattle.rights.proofs.Levels.{access-refused}
-use Rattle.rights.proofs.Ranges.{place-is, refused-is}
-use Rattle.rights.specs.Checks.{leafCheck}
-use Rattle.rights.specs.Level.{rangeOf}
-use Rattle.rights.specs.Register.{put, allOpen}
-use Rattle.rights.specs.declared.answer.Answer.{Answer}
-use Rattle.rights.specs.declared.answer.Answer.the-variants as answer
-use Rattle.rights.specs.declared.range.LevelRange.{LevelRange}
-use Rattle.rights.specs.declared.range.LevelRange.the-variants as range
-use Rattle.rights.specs.declared.stages.LevelRights.{LevelRights}
+use Rattle.levels.proofs.Levels.{access-refused}
+use Rattle.levels.proofs.Ranges.{place-is, refused-is}
+use Rattle.checks.specs.Checks.{leafCheck}
+use Rattle.levels.specs.Level.{rangeOf}
+use Rattle.levels.specs.Register.{put, allOpen}
+use Rattle.checks.specs.declared.answer.Answer.{Answer}
+use Rattle.checks.specs.declared.answer.Answer.the-variants as answer
+use Rattle.levels.specs.declared.LevelRange.{LevelRange}
+use Rattle.levels.specs.declared.LevelRange.the-variants as range
+use Rattle.stages.specs.declared.level.LevelRights.{LevelRights}
 use Rattle.planner.specs.Demand3.{Passes}
 use Rattle.planner.specs.Register.{slotNumber}
 use Rattle.planner.specs.Plan.{after, any, common, forbiddenRights, rangePlan, leafPlan, leafPlanOf}

@@ -14,15 +14,15 @@ use Rattle.records.specs.declared.leaf.Limits.{Limits}
 use Rattle.records.specs.declared.leaf.Stage1.{Stage1}
 use Rattle.records.specs.declared.leaf.Stage2.{Stage2}
 use Rattle.records.specs.declared.setup.Setup.{Setup}
-use Rattle.rights.proofs.Levels.{answerTo, right-is}
-use Rattle.rights.proofs.Ranges.{bare-is, rights-with, place-is}
-use Rattle.rights.specs.Answers.{permitted}
-use Rattle.rights.specs.Level.{rangeOf, between}
-use Rattle.rights.specs.Overlay.{hasRight}
-use Rattle.rights.specs.Register.{put}
-use Rattle.rights.specs.declared.range.LevelRange.the-variants.{Range}
-use Rattle.rights.specs.declared.stages.LevelAnswer.the-variants.{Rights}
-use Rattle.rights.specs.declared.stages.LevelRights.{LevelRights}
+use Rattle.levels.proofs.Levels.{answerTo, right-is}
+use Rattle.levels.proofs.Ranges.{bare-is, rights-with, place-is}
+use Rattle.checks.specs.Answers.{permitted}
+use Rattle.levels.specs.Level.{rangeOf, between}
+use Rattle.stages.specs.Overlay.{hasRight}
+use Rattle.levels.specs.Register.{put}
+use Rattle.levels.specs.declared.LevelRange.the-variants.{Range}
+use Rattle.stages.specs.declared.level.LevelAnswer.the-variants.{Rights}
+use Rattle.stages.specs.declared.level.LevelRights.{LevelRights}
 use Rattle.planner.specs.Register.{slotBit}
 use Rattle.planner.proofs.Bits.{nought-slot}
 

@@ -11,12 +11,12 @@ use Rattle.records.specs.declared.access.Level.{Level}
 use Rattle.records.specs.declared.setup.Setup.{Setup}
 use Rattle.records.specs.declared.setup.SetupRead.{SetupRead}
 use Rattle.records.specs.declared.setup.SetupRead.the-variants as setup
-use Rattle.rights.specs.Checks.{setupCheck, levelCheck}
-use Rattle.rights.specs.Overlay.{bitOf}
-use Rattle.rights.specs.declared.answer.Answer.{Answer}
-use Rattle.rights.specs.declared.answer.Answer.the-variants as answer
-use Rattle.rights.specs.declared.checks.LevelCheck.{LevelCheck}
-use Rattle.rights.specs.declared.checks.LevelCheck.the-variants as level
+use Rattle.checks.specs.Checks.{setupCheck, levelCheck}
+use Rattle.stages.specs.Overlay.{bitOf}
+use Rattle.checks.specs.declared.answer.Answer.{Answer}
+use Rattle.checks.specs.declared.answer.Answer.the-variants as answer
+use Rattle.checks.specs.declared.checks.LevelCheck.{LevelCheck}
+use Rattle.checks.specs.declared.checks.LevelCheck.the-variants as level
 use Rattle.planner.specs.Demand3.{Accepted}
 use Rattle.planner.specs.Plan.{after, startLevel, startSetup, startOf}
 use Rattle.planner.specs.declared.start.Start.{Start}

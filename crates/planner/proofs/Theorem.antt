@@ -17,11 +17,11 @@ use Rattle.records.specs.declared.access.Level.{Level}
 use Rattle.records.specs.declared.access.Right.{Right}
 use Rattle.records.specs.declared.access.Right.the-variants.{Read, Write, Execute}
 use Rattle.records.specs.declared.setup.Setup.{Setup}
-use Rattle.rights.specs.Answers.{permitted}
+use Rattle.checks.specs.Answers.{permitted}
 use Rattle.rights.specs.Order.{leafAnswer}
-use Rattle.rights.specs.Overlay.{hasRight}
-use Rattle.rights.specs.Register.{put}
-use Rattle.rights.specs.declared.stages.LevelRights.{LevelRights}
+use Rattle.stages.specs.Overlay.{hasRight}
+use Rattle.levels.specs.Register.{put}
+use Rattle.stages.specs.declared.level.LevelRights.{LevelRights}
 use Rattle.planner.specs.Register.{Usable, slotBit, accessNumber, packFrom}
 use Rattle.planner.specs.Plan.{forbiddenRights, common, any, leafAt, plansOf, orRefused, uncured, refusedFrom, firstUncured, cuts, registerFor, settled, planLeaves, planOf}
 use Rattle.planner.specs.Demand3.{Passes, leafNo, Allowed, Forbids, Cures, Separates, Largest, FirstUncured, Demand3, Accepted, Demanded}

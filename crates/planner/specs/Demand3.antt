@@ -16,13 +16,13 @@ use Rattle.records.specs.declared.access.Right.{Right}
 use Rattle.records.specs.declared.leaf.Leaf.{Leaf}
 use Rattle.records.specs.declared.setup.Setup.{Setup}
 use Rattle.records.specs.declared.setup.SetupRead.the-variants as setup
-use Rattle.rights.specs.Answers.{permitted}
-use Rattle.rights.specs.Checks.{setupCheck, levelCheck, leafCheck}
+use Rattle.checks.specs.Answers.{permitted}
+use Rattle.checks.specs.Checks.{setupCheck, levelCheck, leafCheck}
 use Rattle.rights.specs.Order.{leafAnswer}
-use Rattle.rights.specs.Overlay.{bitOf}
-use Rattle.rights.specs.Register.{put, allOpen}
-use Rattle.rights.specs.declared.answer.Answer.the-variants as answer
-use Rattle.rights.specs.declared.checks.LevelCheck.the-variants.{Known}
+use Rattle.stages.specs.Overlay.{bitOf}
+use Rattle.levels.specs.Register.{put, allOpen}
+use Rattle.checks.specs.declared.answer.Answer.the-variants as answer
+use Rattle.checks.specs.declared.checks.LevelCheck.the-variants.{Known}
 use Rattle.planner.specs.Register.{Usable, accessNumber}
 use Rattle.planner.specs.Plan.{leafAt}
 use Rattle.planner.specs.declared.Plan.{Plan}

@@ -15,16 +15,16 @@ use Rattle.records.specs.declared.leaf.LeafRead.the-variants as leaf
 use Rattle.records.specs.declared.setup.Setup.{Setup}
 use Rattle.records.specs.declared.setup.SetupRead.{SetupRead}
 use Rattle.records.specs.declared.setup.SetupRead.the-variants as setup
-use Rattle.rights.specs.Checks.{setupCheck, levelCheck, leafCheck}
-use Rattle.rights.specs.Level.{rangeOf}
-use Rattle.rights.specs.Overlay.{three, bitOf}
-use Rattle.rights.specs.declared.answer.Answer.{Answer}
-use Rattle.rights.specs.declared.answer.Answer.the-variants as answer
-use Rattle.rights.specs.declared.checks.LevelCheck.{LevelCheck}
-use Rattle.rights.specs.declared.checks.LevelCheck.the-variants as level
-use Rattle.rights.specs.declared.range.LevelRange.{LevelRange}
-use Rattle.rights.specs.declared.range.LevelRange.the-variants as range
-use Rattle.rights.specs.declared.stages.LevelRights.{LevelRights}
+use Rattle.checks.specs.Checks.{setupCheck, levelCheck, leafCheck}
+use Rattle.levels.specs.Level.{rangeOf}
+use Rattle.stages.specs.Overlay.{three, bitOf}
+use Rattle.checks.specs.declared.answer.Answer.{Answer}
+use Rattle.checks.specs.declared.answer.Answer.the-variants as answer
+use Rattle.checks.specs.declared.checks.LevelCheck.{LevelCheck}
+use Rattle.checks.specs.declared.checks.LevelCheck.the-variants as level
+use Rattle.levels.specs.declared.LevelRange.{LevelRange}
+use Rattle.levels.specs.declared.LevelRange.the-variants as range
+use Rattle.stages.specs.declared.level.LevelRights.{LevelRights}
 use Rattle.planner.specs.Register.{accessNumber, slotNumber, cutMask, packFrom}
 use Rattle.planner.specs.declared.Plan.{Plan}
 use Rattle.planner.specs.declared.Plan.the-variants.{Register, Refused}

@@ -5,11 +5,11 @@ ghost use Rattle.planner.specs.Register.{firstAccess};
 ghost use Rattle.planner.specs.Plan.{refusalOf, rangePlan, leafPlanOf};
 use crate::masks::slot_number;
 use crate::start::number_of;
+use checks::answer::Answer;
+use levels::LevelRange;
 use records::access::Level;
 use records::leaf::LeafRead;
 use records::setup::Setup;
-use rights::answer::Answer;
-use rights::range::LevelRange;
 
 // The bits `taken` must be off in the slot at `place`; `uncured`: no register cures the leaf. Or a refusal's number.
 pub(crate) enum LeafPlan {
@@ -72,16 +72,12 @@ pub(crate) fn plan_leaf(s: Setup, l: Level, leaf: &[u8]) -> LeafPlan
     let LeafRead::Read(f) = read else {
         return LeafPlan::Refused(13);
     };
-    let check = rights::checks::check_leaf(f);
+    let check = checks::checks::check_leaf(f);
     let Answer::Permitted = check else {
         return LeafPlan::Refused(number_of(check));
     };
     let one = records::leaf::read_stage1(f.stage1);
     let two = records::leaf::read_stage2(f.stage2);
     let t = records::leaf::read_limits(f.limits);
-    range_plan(
-        f.forbidden,
-        l,
-        rights::range::level_range(s, one, two, t, l),
-    )
+    range_plan(f.forbidden, l, range::level_range(s, one, two, t, l))
 }

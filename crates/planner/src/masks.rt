@@ -2,7 +2,7 @@
 ghost use mathlib.Core.Path.{_≡_};
 ghost use Prim.Native.Nat.{ℕ, _<_};
 ghost use lib.ListN.{getD};
-ghost use Rattle.rights.specs.Overlay.{three};
+ghost use Rattle.stages.specs.Overlay.{three};
 ghost use Rattle.planner.specs.Register.{slotNumber, cutMask, packFrom};
 ghost use Rattle.planner.specs.Plan.{firstOf};
 

@@ -1,14 +1,14 @@
 // The checks before the leaves: 13, 1, 2, 3, 4, 12, 11.
 ghost use mathlib.Core.Path.{_≡_};
 ghost use mathlib.Core.Bool.{_&&_};
-ghost use Rattle.rights.specs.Overlay.{bitOf};
+ghost use Rattle.stages.specs.Overlay.{bitOf};
 ghost use Rattle.planner.specs.Plan.{numberOf, startOf};
+use checks::answer::Answer;
+use checks::checks::LevelCheck;
 use records::access::Level;
 use records::setup::Control;
 use records::setup::Setup;
 use records::setup::SetupRead;
-use rights::answer::Answer;
-use rights::checks::LevelCheck;
 
 // The setup and the level to plan for, or a refusal's number.
 pub(crate) enum Start {
@@ -46,11 +46,11 @@ pub(crate) fn begin(setup: &[u8], level: u64, len: usize) -> Start
         return Start::Refused(13);
     };
     let c = s.control;
-    let check = rights::checks::check_setup(c);
+    let check = checks::checks::check_setup(c);
     let Answer::Permitted = check else {
         return Start::Refused(number_of(check));
     };
-    let known = rights::checks::check_level(level);
+    let known = checks::checks::check_level(level);
     let LevelCheck::Known(l) = known else {
         return Start::Refused(4);
     };

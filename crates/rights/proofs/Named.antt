@@ -22,17 +22,18 @@ use Rattle.base.specs.Indirect.{codeOf, granted, indirectOf}
 use Rattle.base.specs.declared.Base.{Base}
 use Rattle.base.specs.declared.BaseAnswer.{BaseAnswer}
 use Rattle.base.specs.declared.BaseAnswer.the-variants as base
-use Rattle.rights.specs.Answers.{follow, faultUnless, refuseIf, descriptorAnswer}
-use Rattle.rights.specs.Checks.{clash, unjudged, setupCheck, accessCheck, leafCheck}
-use Rattle.rights.specs.Order.{dirty, baseAnswer, stage1Answer, stagesAnswer, leafAnswer, afterAccess, rightsAnswer}
-use Rattle.rights.specs.Overlay.{hasRight, has, bitOf, registerOf, slotRights, slotAnswer}
-use Rattle.rights.specs.Stage2.{stage2Rights, stage2Answer}
-use Rattle.rights.specs.declared.answer.Answer.{Answer}
-use Rattle.rights.specs.declared.answer.Answer.the-variants.{Permitted, Fault, Refused}
-use Rattle.rights.specs.declared.answer.Fault.{Fault as FaultOf}
-use Rattle.rights.specs.declared.answer.Kind.{Kind}
-use Rattle.rights.specs.declared.answer.Kind.the-variants.{Translation, AccessFlag, Permission, Overlay}
-use Rattle.rights.specs.declared.checks.AccessCheck.the-variants as access
+use Rattle.checks.specs.Answers.{follow, faultUnless, refuseIf, descriptorAnswer}
+use Rattle.checks.specs.Checks.{clash, unjudged, setupCheck, accessCheck, leafCheck}
+use Rattle.stages.specs.Stage1.{dirty, baseAnswer, stage1Answer}
+use Rattle.rights.specs.Order.{stagesAnswer, leafAnswer, afterAccess, rightsAnswer}
+use Rattle.stages.specs.Overlay.{hasRight, has, bitOf, registerOf, slotRights, slotAnswer}
+use Rattle.stages.specs.Stage2.{stage2Rights, stage2Answer}
+use Rattle.checks.specs.declared.answer.Answer.{Answer}
+use Rattle.checks.specs.declared.answer.Answer.the-variants.{Permitted, Fault, Refused}
+use Rattle.checks.specs.declared.answer.Fault.{Fault as FaultOf}
+use Rattle.checks.specs.declared.answer.Kind.{Kind}
+use Rattle.checks.specs.declared.answer.Kind.the-variants.{Translation, AccessFlag, Permission, Overlay}
+use Rattle.checks.specs.declared.checks.AccessCheck.the-variants as access
 
 pub data Named : Answer → Type 0 where
   permits : Named Permitted

@@ -9,8 +9,8 @@ use denote.Ref.{now}
 use Rattle.records.proofs.Fields.{copied}
 use Rattle.records.proofs.Lengths.{setup-13}
 use Rattle.records.specs.declared.setup.Setup.{Setup}
-use Rattle.rights.specs.Checks.{setupCheck}
-use Rattle.rights.specs.declared.answer.Answer.the-variants as answer
+use Rattle.checks.specs.Checks.{setupCheck}
+use Rattle.checks.specs.declared.answer.Answer.the-variants as answer
 use Rattle.judge.specs.List.{Walk, Result, refuse, finish, leavesOf, afterCheck, listOf}
 use Rattle.judge.specs.Walked.{walkIn, refusedOf}
 use Rattle.judge.proofs.Lists.{reads-as, met, result, refused-setup, odd, long, short, goes}

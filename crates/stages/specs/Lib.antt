@@ -1,0 +1,3 @@
+pub mod Overlay
+pub mod Stage1
+pub mod Stage2

@@ -1,0 +1,53 @@
+// Stage 1 of one access, step by step: the first fault or refusal is the answer.
+ghost use mathlib.Core.Path.{_≡_};
+ghost use Rattle.stages.specs.Overlay.{has};
+ghost use Rattle.stages.specs.Stage1.{dirty, baseAnswer, stage1Answer};
+use crate::descriptor::descriptor_answer;
+use crate::level::has;
+use crate::overlay::overlay_answer;
+use base::BaseAnswer;
+use checks::answer::Answer;
+use checks::answer::Kind;
+use checks::answer::fault_unless;
+use records::access::Access;
+use records::leaf::Limits;
+use records::leaf::Stage1;
+use records::setup::Control;
+use records::setup::Setup;
+
+// From the base rights on: base codes 6 and 7, Permission fault, overlay.
+fn base_answer(s: Setup, d: Stage1, a: Access, base: BaseAnswer) -> Answer
+    ensures { λ x. ⌜ x ≡ baseAnswer s d a base ⌝ }
+{
+    match base {
+        BaseAnswer::Refused(n) => Answer::Refused(n),
+        BaseAnswer::Granted(b) => {
+            let r = b.rights;
+            let permit = fault_unless(has(r, a), 1, Kind::Permission);
+            let Answer::Permitted = permit else {
+                return permit;
+            };
+            overlay_answer(s, d, b, a)
+        }
+    }
+}
+
+pub fn dirty_state(c: Control, d: Stage1) -> bool
+    ensures { λ x. ⌜ x ≡ dirty c d ⌝ }
+{
+    if c.indirect {
+        return d.bit7;
+    }
+    d.bit51
+}
+
+pub fn stage1_answer(s: Setup, d: Stage1, t: Limits, a: Access) -> Answer
+    ensures { λ x. ⌜ x ≡ stage1Answer s d t a ⌝ }
+{
+    let c = s.control;
+    let first = descriptor_answer(1, d.valid, d.af, dirty_state(c, d));
+    let Answer::Permitted = first else {
+        return first;
+    };
+    base_answer(s, d, a, base::base_rights(s, d, t))
+}
