@@ -13,7 +13,7 @@ use Rattle.attributes.specs.Order.{attributesOf, memoryOf}
 use Rattle.attributes.specs.declared.Attributes.{Attributes}
 use Rattle.attributes.specs.declared.Attributes.the-variants.{Combined, Refused}
 use Rattle.records.specs.Setup.{controlOf}
-use Rattle.records.specs.Leaf.{stage1Of, stage2Of}
+use Rattle.descriptors.specs.Descriptor.{stage1Of, stage2Of}
 use Rattle.records.specs.declared.setup.Setup.{Setup}
 
 -- the setup of these cases with a control word; MAIR2 is F0AA00

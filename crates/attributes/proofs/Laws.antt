@@ -13,8 +13,8 @@ use Rattle.attributes.specs.declared.Attributes.{Attributes}
 use Rattle.attributes.specs.declared.Attributes.the-variants as attributes
 use Rattle.attributes.specs.declared.Check.the-variants as check
 use Rattle.attributes.specs.declared.Memory.{Memory}
-use Rattle.records.specs.declared.leaf.Stage1.{Stage1}
-use Rattle.records.specs.declared.leaf.Stage2.{Stage2}
+use Rattle.descriptors.specs.declared.Stage1.{Stage1}
+use Rattle.descriptors.specs.declared.Stage2.{Stage2}
 use Rattle.records.specs.declared.setup.Setup.{Setup}
 
 pub checks : (s : Setup) (one : Stage1) (two : Stage2) (fetch : Bool) → checkOf s one two ≡ checkIn (attributesOf s one two fetch)

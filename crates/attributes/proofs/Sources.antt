@@ -20,8 +20,8 @@ use Rattle.records.proofs.Cases.{upto, both, at, at-both}
 use Rattle.attributes.proofs.Codes.{at-codes}
 use Rattle.attributes.proofs.Stages.{byte-on, reserved-byte-on, sh-on, reserved-code-on, result-on, combined-on, reserved-sh-on}
 use Rattle.attributes.proofs.SourceTables.{Typed, refused, typed, typedIn, answerIn}
-use Rattle.records.specs.declared.leaf.Stage1.{Stage1}
-use Rattle.records.specs.declared.leaf.Stage2.{Stage2}
+use Rattle.descriptors.specs.declared.Stage1.{Stage1}
+use Rattle.descriptors.specs.declared.Stage2.{Stage2}
 use Rattle.records.specs.declared.setup.Setup.{Setup}
 
 -- what the definitions say of a byte and MemAttr

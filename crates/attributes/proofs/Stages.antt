@@ -7,8 +7,8 @@ use Rattle.attributes.specs.Mair.{validByte, mairByte, offByte, stage1By
 use Rattle.attributes.specs.StageTwoType.{memAttrOf, reservedCode, reservedMemAttr}
 use Rattle.attributes.specs.Combine.{combine, resultOf}
 use Rattle.attributes.specs.Shareability.{uncached, counted, stronger, reservedSH, stage1SH, stage2SH, combinedSH}
-use Rattle.records.specs.declared.leaf.Stage1.{Stage1}
-use Rattle.records.specs.declared.leaf.Stage2.{Stage2}
+use Rattle.descriptors.specs.declared.Stage1.{Stage1}
+use Rattle.descriptors.specs.declared.Stage2.{Stage2}
 use Rattle.records.specs.declared.setup.Setup.{Setup}
 
 -- stage 1 on

@@ -18,8 +18,8 @@ use Rattle.attributes.specs.declared.Memory.{Memory}
 use Rattle.records.proofs.Cases.{at}
 use Rattle.attributes.proofs.Codes.{at-codes}
 use Rattle.attributes.proofs.Stages.{byte-on, byte-off, reserved-byte-on, sh-on, reserved-code-on, result-on, result-off, combined-on, combined-off}
-use Rattle.records.specs.declared.leaf.Stage1.{Stage1}
-use Rattle.records.specs.declared.leaf.Stage2.{Stage2}
+use Rattle.descriptors.specs.declared.Stage1.{Stage1}
+use Rattle.descriptors.specs.declared.Stage2.{Stage2}
 use Rattle.records.specs.declared.setup.Setup.{Setup}
 
 -- t wherever a and b hold

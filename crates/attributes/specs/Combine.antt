@@ -5,8 +5,8 @@ use mathlib.Core.Bool.{Bool, cond, not, _&&_}
 use lib.Dec.{eqb, leb}
 use Rattle.attributes.specs.Mair.{outer, inner, nibbles, device, isDevice, nonCacheable, writeBack, classOf, hints, cacheableNibble, stage1Byte}
 use Rattle.attributes.specs.StageTwoType.{memAttrOf, deviceCode, outerClass, innerClass}
-use Rattle.records.specs.declared.leaf.Stage1.{Stage1}
-use Rattle.records.specs.declared.leaf.Stage2.{Stage2}
+use Rattle.descriptors.specs.declared.Stage1.{Stage1}
+use Rattle.descriptors.specs.declared.Stage2.{Stage2}
 use Rattle.records.specs.declared.setup.Setup.{Setup}
 
 -- any Device wins, and two Devices give the stricter (earlier): stage 1's byte b with stage 2's Device n

@@ -3,8 +3,8 @@
 use Prim.Native.Nat.{ℕ, _+_, _*_, _/_, _%_}
 use mathlib.Core.Bool.{Bool, cond, not, _&&_, _||_}
 use lib.Dec.{eqb, ltb}
-use Rattle.records.specs.Bytes.{bit, field}
-use Rattle.records.specs.declared.leaf.Stage1.{Stage1}
+use Rattle.descriptors.specs.Bits.{bit, field}
+use Rattle.descriptors.specs.declared.Stage1.{Stage1}
 use Rattle.records.specs.declared.setup.Setup.{Setup}
 
 -- a byte's outer nibble is high, its inner nibble low

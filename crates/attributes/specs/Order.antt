@@ -10,8 +10,8 @@ use Rattle.attributes.specs.declared.Attributes.the-variants as attribut
 use Rattle.attributes.specs.declared.Check.{Check}
 use Rattle.attributes.specs.declared.Check.the-variants as check
 use Rattle.attributes.specs.declared.Memory.{Memory}
-use Rattle.records.specs.declared.leaf.Stage1.{Stage1}
-use Rattle.records.specs.declared.leaf.Stage2.{Stage2}
+use Rattle.descriptors.specs.declared.Stage1.{Stage1}
+use Rattle.descriptors.specs.declared.Stage2.{Stage2}
 use Rattle.records.specs.declared.setup.Setup.{Setup}
 
 -- the byte and SH of an access that none of the steps refuses; an allowed fetch reports the type as it stands, Device included

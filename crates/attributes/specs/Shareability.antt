@@ -5,8 +5,8 @@ use lib.Dec.{eqb}
 use Rattle.attributes.specs.Mair.{nibbles, isDevice, stage1Byte}
 use Rattle.attributes.specs.StageTwoType.{memAttrOf, uncachedCode}
 use Rattle.attributes.specs.Combine.{resultByte}
-use Rattle.records.specs.declared.leaf.Stage1.{Stage1}
-use Rattle.records.specs.declared.leaf.Stage2.{Stage2}
+use Rattle.descriptors.specs.declared.Stage1.{Stage1}
+use Rattle.descriptors.specs.declared.Stage2.{Stage2}
 use Rattle.records.specs.declared.setup.Setup.{Setup}
 
 -- refusal 9: SH is 01 in a stage that is on, whatever its memory type

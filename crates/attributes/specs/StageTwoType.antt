@@ -3,8 +3,8 @@
 use Prim.Native.Nat.{ℕ, _/_, _%_}
 use mathlib.Core.Bool.{Bool, cond, _&&_, _||_}
 use lib.Dec.{eqb, ltb}
-use Rattle.records.specs.Bytes.{bit}
-use Rattle.records.specs.declared.leaf.Stage2.{Stage2}
+use Rattle.descriptors.specs.Bits.{bit}
+use Rattle.descriptors.specs.declared.Stage2.{Stage2}
 use Rattle.records.specs.declared.setup.Setup.{Setup}
 
 -- MemAttr has four bits

@@ -21,8 +21,8 @@ use crate::shareability::shareability_code;
 use crate::stage2::memattr_code;
 use crate::stage2::reserved_code;
 use crate::step::Reached;
-use records::leaf::Stage1;
-use records::leaf::Stage2;
+use descriptors::Stage1;
+use descriptors::Stage2;
 use records::setup::Setup;
 
 // The MAIR byte and SH of an allowed access.

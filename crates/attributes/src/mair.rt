@@ -3,7 +3,7 @@ ghost use mathlib.Core.Path.{_≡_};
 ghost use Rattle.attributes.specs.Mair.{isDevice, validByte, mairByte, offByte, stage1Byte, reservedByte};
 ghost use Rattle.attributes.specs.Step.{reached};
 use crate::step::Reached;
-use records::leaf::Stage1;
+use descriptors::Stage1;
 use records::setup::Setup;
 
 // 00, 04, 08 or 0C.

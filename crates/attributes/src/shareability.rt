@@ -5,8 +5,8 @@ ghost use Rattle.attributes.specs.Step.{reached};
 use crate::mair::is_device;
 use crate::stage2::uncached_code;
 use crate::step::Reached;
-use records::leaf::Stage1;
-use records::leaf::Stage2;
+use descriptors::Stage1;
+use descriptors::Stage2;
 use records::setup::Setup;
 
 // SH is 01 in a stage that is on.

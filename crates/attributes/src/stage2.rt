@@ -3,7 +3,7 @@ ghost use mathlib.Core.Path.{_≡_};
 ghost use Rattle.attributes.specs.StageTwoType.{memAttrOf, reservedCode, uncachedCode, reservedMemAttr};
 ghost use Rattle.attributes.specs.Step.{reached};
 use crate::step::Reached;
-use records::leaf::Stage2;
+use descriptors::Stage2;
 use records::setup::Setup;
 
 // MemAttr is reserved or needs an extension.

@@ -6,7 +6,7 @@ use Prim.Native.Nat.{ℕ, _%_}
 use native.Mathlib.Omega.{arith}
 use lib.Dec.{ltb}
 use lib.ListN.{getD}
-use Rattle.records.specs.Bytes.{bit}
+use Rattle.descriptors.specs.Bits.{bit}
 use Rattle.records.proofs.Cases.{at}
 use Rattle.base.specs.Direct.{six, ap}
 use Rattle.base.specs.Indirect.{meanings, fields, reserved, codeOf}

@@ -1,7 +1,7 @@
 -- Document 01, 'Stage 1 rights': base rights, by Direct or Indirect permissions. Assumes nothing.
 use mathlib.Core.Bool.{true, cond}
-use Rattle.records.specs.declared.leaf.Limits.{Limits}
-use Rattle.records.specs.declared.leaf.Stage1.{Stage1}
+use Rattle.descriptors.specs.declared.Limits.{Limits}
+use Rattle.descriptors.specs.declared.Stage1.{Stage1}
 use Rattle.records.specs.declared.setup.Setup.{Setup}
 use Rattle.base.specs.Direct.{directOf}
 use Rattle.base.specs.Indirect.{indirectOf}

@@ -2,8 +2,8 @@
 -- APTable, PXN and UXN, PXNTable and UXNTable, unprivileged write, WXN, PAN. Each reads the rights that the steps before it left.
 -- Assumes nothing.
 use mathlib.Core.Bool.{Bool, true, false, cond, not, _&&_, _||_}
-use Rattle.records.specs.declared.leaf.Limits.{Limits}
-use Rattle.records.specs.declared.leaf.Stage1.{Stage1}
+use Rattle.descriptors.specs.declared.Limits.{Limits}
+use Rattle.descriptors.specs.declared.Stage1.{Stage1}
 use Rattle.records.specs.declared.setup.Control.{Control}
 use Rattle.base.specs.declared.Rights.{Rights}
 

@@ -4,8 +4,8 @@ use mathlib.Core.List.{List, [], _∷_}
 use mathlib.Core.Bool.{Bool, true, false, cond, _&&_, _||_}
 use lib.Dec.{ltb}
 use lib.ListN.{getD}
-use Rattle.records.specs.Leaf.{codeAt}
-use Rattle.records.specs.declared.index.PIIndex.{PIIndex}
+use Rattle.descriptors.specs.Descriptor.{codeAt}
+use Rattle.descriptors.specs.declared.index.PIIndex.{PIIndex}
 use Rattle.records.specs.declared.setup.Control.{Control}
 use Rattle.records.specs.declared.setup.LevelRegisters.{LevelRegisters}
 use Rattle.base.specs.Direct.{six}

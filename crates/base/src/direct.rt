@@ -2,8 +2,8 @@
 ghost use mathlib.Core.Path.{_≡_};
 ghost use Rattle.base.specs.Direct.{directTwo, directOne, directOf};
 use crate::Rights;
-use records::leaf::Limits;
-use records::leaf::Stage1;
+use descriptors::Limits;
+use descriptors::Stage1;
 use records::setup::Control;
 
 // With two levels, in the order of the definition's steps: AP, APTable, PXN and UXN, their tables, unprivileged write, WXN, PAN.

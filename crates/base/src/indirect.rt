@@ -4,7 +4,7 @@ ghost use Rattle.base.specs.Indirect.{codeOf, indirectStep, indirectOf};
 use crate::Base;
 use crate::BaseAnswer;
 use crate::Rights;
-use records::index::PIIndex;
+use descriptors::index::PIIndex;
 use records::setup::Control;
 use records::setup::LevelBits;
 use records::setup::LevelRegisters;

@@ -5,8 +5,8 @@ pub mod indirect;
 
 ghost use mathlib.Core.Path.{_≡_};
 ghost use Rattle.base.specs.Base.{baseOf};
-use records::leaf::Limits;
-use records::leaf::Stage1;
+use descriptors::Limits;
+use descriptors::Stage1;
 use records::setup::LevelBits;
 use records::setup::Setup;
 

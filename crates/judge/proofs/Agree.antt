@@ -8,7 +8,7 @@ use native.Mathlib.Nat.{mul-one, mul-zero, zero-add, add-assoc}
 use native.Mathlib.Omega.{arith}
 use lib.Dec.{leb, ltb}
 use Rattle.records.specs.Access.{accessOf, accessAt}
-use Rattle.records.specs.Leaf.{stage1Of, stage2Of, limitsOf}
+use Rattle.descriptors.specs.Descriptor.{stage1Of, stage2Of, limitsOf}
 use Rattle.records.specs.declared.access.Access.{Access}
 use Rattle.records.specs.declared.access.Level.{Level}
 use Rattle.records.specs.declared.access.Level.the-variants.{Privileged, Unprivileged}

@@ -8,7 +8,7 @@ use native.Mathlib.Omega.{arith}
 use lib.Dec.{ltb}
 use lib.ListN.{length, getD}
 use Rattle.records.proofs.Cases.{at, each}
-use Rattle.records.specs.Bytes.{bit}
+use Rattle.descriptors.specs.Bits.{bit}
 use Rattle.records.specs.declared.leaf.Leaf.{Leaf}
 use Rattle.records.specs.declared.setup.Setup.{Setup}
 use Rattle.judge.specs.Demands.{isAllowed, judgedBit}

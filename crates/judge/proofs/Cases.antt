@@ -2,7 +2,8 @@
 use mathlib.Core.Path.{_≡_, refl}
 use mathlib.Core.List.{map, _∷_, []}
 use Rattle.records.specs.Bytes.{le64}
-use Rattle.records.specs.Leaf.{leafOf, readLeaf, limitsOf, stage1Of, stage2Of}
+use Rattle.records.specs.Leaf.{leafOf, readLeaf}
+use Rattle.descriptors.specs.Descriptor.{limitsOf, stage1Of, stage2Of}
 use Rattle.records.specs.Setup.{controlOf, setupOf, readSetup}
 use Rattle.base.specs.Base.{baseOf}
 use Rattle.base.specs.Direct.{ap, directTwo, directOne, directOf}

@@ -11,8 +11,9 @@ use lib.ListN.{length, getD, drop, List·getD-append}
 use lib.Seq.{drop-at}
 use Rattle.records.proofs.Lengths.{setup-13, leaf-13}
 use Rattle.records.specs.Access.{accessAt}
-use Rattle.records.specs.Leaf.{stage1Of, stage2Of, readLeaf}
-use Rattle.records.specs.MapFile.{over}
+use Rattle.descriptors.specs.Descriptor.{stage1Of, stage2Of}
+use Rattle.records.specs.Leaf.{readLeaf}
+use Rattle.records.specs.Bytes.{over}
 use Rattle.records.specs.Setup.{readSetup}
 use Rattle.records.specs.declared.leaf.Leaf.{Leaf}
 use Rattle.records.specs.declared.leaf.LeafRead.{LeafRead}

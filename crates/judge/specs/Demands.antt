@@ -7,8 +7,9 @@ use mathlib.Core.Logic.{_⊎_}
 use lib.Dec.{ltb}
 use lib.ListN.{length, getD, drop}
 use Rattle.records.specs.Access.{accessAt}
-use Rattle.records.specs.Bytes.{bit}
-use Rattle.records.specs.Leaf.{stage1Of, stage2Of, limitsOf, readLeaf}
+use Rattle.descriptors.specs.Bits.{bit}
+use Rattle.descriptors.specs.Descriptor.{stage1Of, stage2Of, limitsOf}
+use Rattle.records.specs.Leaf.{readLeaf}
 use Rattle.records.specs.Setup.{readSetup}
 use Rattle.records.specs.declared.leaf.Leaf.{Leaf}
 use Rattle.records.specs.declared.leaf.LeafRead.the-variants as leaf

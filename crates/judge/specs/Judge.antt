@@ -3,7 +3,8 @@ use Prim.Native.Nat.{ℕ}
 use mathlib.Core.List.{List}
 use mathlib.Core.Bool.{Bool, _||_}
 use lib.Dec.{eqb}
-use Rattle.records.specs.Leaf.{stage1Of, stage2Of, readLeaf}
+use Rattle.descriptors.specs.Descriptor.{stage1Of, stage2Of}
+use Rattle.records.specs.Leaf.{readLeaf}
 use Rattle.records.specs.Setup.{readSetup}
 use Rattle.records.specs.declared.leaf.Leaf.{Leaf}
 use Rattle.records.specs.declared.leaf.LeafRead.{LeafRead}

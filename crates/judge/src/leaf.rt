@@ -87,9 +87,9 @@ pub(crate) fn leaf_rights(s: Setup, l: Leaf) -> LeafRights
     let Answer::Permitted = check else {
         return check_refusal(check);
     };
-    let one = records::leaf::read_stage1(l.stage1);
-    let two = records::leaf::read_stage2(l.stage2);
-    let t = records::leaf::read_limits(l.limits);
+    let one = descriptors::read_stage1(l.stage1);
+    let two = descriptors::read_stage2(l.stage2);
+    let t = descriptors::read_limits(l.limits);
     let levels = pass::leaf_levels(s, one, two, t);
     pass_levels(
         s.control.two,

@@ -8,15 +8,15 @@ use lib.Dec.{leb}
 use lib.ListN.{getD}
 use Rattle.records.proofs.Cases.{each}
 use Rattle.records.specs.Access.{accessOf}
-use Rattle.records.specs.Bytes.{bit}
-use Rattle.records.specs.Leaf.{slotAt}
+use Rattle.descriptors.specs.Bits.{bit}
+use Rattle.descriptors.specs.Descriptor.{slotAt}
 use Rattle.records.specs.declared.access.Level.{Level}
 use Rattle.records.specs.declared.access.Level.the-variants.{Privileged, Unprivileged}
 use Rattle.records.specs.declared.access.Right.{Right}
 use Rattle.records.specs.declared.access.Right.the-variants.{Read, Write, Execute}
-use Rattle.records.specs.declared.leaf.Limits.{Limits}
-use Rattle.records.specs.declared.leaf.Stage1.{Stage1}
-use Rattle.records.specs.declared.leaf.Stage2.{Stage2}
+use Rattle.descriptors.specs.declared.Limits.{Limits}
+use Rattle.descriptors.specs.declared.Stage1.{Stage1}
+use Rattle.descriptors.specs.declared.Stage2.{Stage2}
 use Rattle.records.specs.declared.setup.LevelBits.{LevelBits}
 use Rattle.records.specs.declared.setup.Setup.{Setup}
 use Rattle.base.specs.Base.{baseOf}

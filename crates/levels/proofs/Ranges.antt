@@ -9,14 +9,14 @@ use native.Mathlib.Omega.{arith}
 use lib.ListN.{getD}
 use borrow.Author.Tests.{lt-leb}
 use Rattle.records.proofs.Cases.{at, each}
-use Rattle.records.specs.Bytes.{nibble}
-use Rattle.records.specs.Leaf.{placeOf, slotAt}
+use Rattle.descriptors.specs.Bits.{nibble}
+use Rattle.descriptors.specs.Descriptor.{placeOf, slotAt}
 use Rattle.records.specs.declared.access.Level.{Level}
 use Rattle.records.specs.declared.access.Level.the-variants.{Privileged, Unprivileged}
-use Rattle.records.specs.declared.index.POIndex.{POIndex}
-use Rattle.records.specs.declared.leaf.Limits.{Limits}
-use Rattle.records.specs.declared.leaf.Stage1.{Stage1}
-use Rattle.records.specs.declared.leaf.Stage2.{Stage2}
+use Rattle.descriptors.specs.declared.index.POIndex.{POIndex}
+use Rattle.descriptors.specs.declared.Limits.{Limits}
+use Rattle.descriptors.specs.declared.Stage1.{Stage1}
+use Rattle.descriptors.specs.declared.Stage2.{Stage2}
 use Rattle.records.specs.declared.setup.LevelBits.{LevelBits}
 use Rattle.records.specs.declared.setup.Setup.{Setup}
 use Rattle.base.specs.Base.{baseOf}

@@ -3,11 +3,11 @@
 use Prim.Native.Nat.{ℕ}
 use mathlib.Core.Bool.{Bool, true, false, cond, not, _&&_, _||_}
 use lib.Dec.{leb}
-use Rattle.records.specs.Leaf.{slotAt}
+use Rattle.descriptors.specs.Descriptor.{slotAt}
 use Rattle.records.specs.declared.access.Level.{Level}
-use Rattle.records.specs.declared.leaf.Limits.{Limits}
-use Rattle.records.specs.declared.leaf.Stage1.{Stage1}
-use Rattle.records.specs.declared.leaf.Stage2.{Stage2}
+use Rattle.descriptors.specs.declared.Limits.{Limits}
+use Rattle.descriptors.specs.declared.Stage1.{Stage1}
+use Rattle.descriptors.specs.declared.Stage2.{Stage2}
 use Rattle.records.specs.declared.setup.LevelBits.{LevelBits}
 use Rattle.records.specs.declared.setup.Setup.{Setup}
 use Rattle.base.specs.Base.{baseOf}

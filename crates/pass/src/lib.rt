@@ -5,13 +5,13 @@ ghost use Rattle.levels.specs.Pass.{fromBase, stage1Pass, stage2Pass, any, over
 use base::Base;
 use base::BaseAnswer;
 use base::Rights;
+use descriptors::Limits;
+use descriptors::Stage1;
+use descriptors::Stage2;
 use levels::LeafLevels;
 use levels::Stage1Pass;
 use levels::Stage2Pass;
 use records::access::Level;
-use records::leaf::Limits;
-use records::leaf::Stage1;
-use records::leaf::Stage2;
 use records::setup::LevelBits;
 use records::setup::Setup;
 use stages::level::LevelAnswer;

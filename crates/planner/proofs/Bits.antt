@@ -10,7 +10,7 @@ use lib.ListN.{getD}
 use lib.Pow.{shr-shr, field, mod-mod-pow, pow-mono}
 use mir.Val.{boolByte}
 use Rattle.records.proofs.Cases.{upto, at, each}
-use Rattle.records.specs.Bytes.{bit, nibble}
+use Rattle.descriptors.specs.Bits.{bit, nibble}
 use Rattle.records.specs.declared.access.Right.{Right}
 use Rattle.records.specs.declared.access.Right.the-variants.{Read, Write, Execute}
 use Rattle.stages.specs.Overlay.{three, hasRight}

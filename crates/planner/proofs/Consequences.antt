@@ -7,8 +7,8 @@ use mathlib.Core.Logic.{_↔_}
 use Prim.Native.Nat.{ℕ, _<_}
 use native.Mathlib.Omega.{arith}
 use Rattle.records.specs.Access.{accessOf, accessAt}
-use Rattle.records.specs.Bytes.{bit}
-use Rattle.records.specs.Leaf.{stage1Of, stage2Of, limitsOf, slotAt}
+use Rattle.descriptors.specs.Bits.{bit}
+use Rattle.descriptors.specs.Descriptor.{stage1Of, stage2Of, limitsOf, slotAt}
 use Rattle.records.specs.declared.access.Level.{Level}
 use Rattle.records.specs.declared.access.Level.the-variants.{Privileged, Unprivileged}
 use Rattle.records.specs.declared.access.Right.{Right}

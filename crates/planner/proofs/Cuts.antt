@@ -9,7 +9,7 @@ use lib.Dec.{eqb}
 use lib.ListN.{length, getD, set, length-set, replicate}
 use lib.Seq.{getD-set-same, getD-set-other}
 use borrow.Author.Tests.{eqb-true, eqb-false}
-use Rattle.records.specs.Bytes.{bit}
+use Rattle.descriptors.specs.Bits.{bit}
 use Rattle.planner.specs.Register.{cutMask}
 use Rattle.planner.specs.Plan.{cutBy, cuts, uncured, firstUncured}
 use Rattle.planner.specs.declared.leaf.LeafPlan.{LeafPlan}

@@ -6,7 +6,7 @@ use native.Mathlib.Omega.{arith}
 use native.Mathlib.Nat.{add-zero, add-suc, suc-add}
 use lib.Pow.{pow-add, pow-mono, shr-shr}
 use lib.ListN.{getD}
-use Rattle.records.specs.Bytes.{nibble}
+use Rattle.descriptors.specs.Bits.{nibble}
 use Rattle.planner.specs.Register.{packFrom}
 
 four : (m : ℕ) → 2 ^ (4 * suc m) ≡ 16 * 2 ^ (4 * m)

@@ -5,14 +5,14 @@ use mathlib.Core.Path.{_≡_, refl, sym, ap, _∙_}
 use mathlib.Core.Bool.{Bool, true, false, _&&_, _||_}
 use Prim.Native.Nat.{ℕ, _<_}
 use native.Mathlib.Omega.{arith}
-use Rattle.records.specs.Bytes.{bit, nibble}
-use Rattle.records.specs.Leaf.{placeOf, slotAt}
+use Rattle.descriptors.specs.Bits.{bit, nibble}
+use Rattle.descriptors.specs.Descriptor.{placeOf, slotAt}
 use Rattle.records.specs.declared.access.Level.{Level}
 use Rattle.records.specs.declared.access.Right.{Right}
 use Rattle.records.specs.declared.access.Right.the-variants.{Read, Write, Execute}
-use Rattle.records.specs.declared.leaf.Limits.{Limits}
-use Rattle.records.specs.declared.leaf.Stage1.{Stage1}
-use Rattle.records.specs.declared.leaf.Stage2.{Stage2}
+use Rattle.descriptors.specs.declared.Limits.{Limits}
+use Rattle.descriptors.specs.declared.Stage1.{Stage1}
+use Rattle.descriptors.specs.declared.Stage2.{Stage2}
 use Rattle.records.specs.declared.setup.Setup.{Setup}
 use Rattle.levels.proofs.Levels.{answerTo, right-is}
 use Rattle.levels.proofs.Ranges.{bare-is, rights-with, place-is}

@@ -11,8 +11,9 @@ use lib.Dec.{eqb, ltb}
 use lib.ListN.{length, getD, replicate, getD-replicate, length-take, length-drop}
 use borrow.Author.Tests.{eqb-true, eq-eqb, ltb-true, ltb-false}
 use Rattle.records.specs.Access.{accessOf}
-use Rattle.records.specs.Bytes.{bit, nibble}
-use Rattle.records.specs.Leaf.{leafOf, stage1Of, stage2Of, limitsOf}
+use Rattle.descriptors.specs.Bits.{bit, nibble}
+use Rattle.records.specs.Leaf.{leafOf}
+use Rattle.descriptors.specs.Descriptor.{stage1Of, stage2Of, limitsOf}
 use Rattle.records.specs.declared.access.Level.{Level}
 use Rattle.records.specs.declared.access.Right.{Right}
 use Rattle.records.specs.declared.access.Right.the-variants.{Read, Write, Execute}

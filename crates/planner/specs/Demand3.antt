@@ -8,7 +8,7 @@ use mathlib.Core.Bool.{true}
 use mathlib.Core.Logic.{_⊎_}
 use lib.ListN.{length}
 use Rattle.records.specs.Access.{accessOf}
-use Rattle.records.specs.Bytes.{bit}
+use Rattle.descriptors.specs.Bits.{bit}
 use Rattle.records.specs.Leaf.{leafOf}
 use Rattle.records.specs.Setup.{readSetup}
 use Rattle.records.specs.declared.access.Level.{Level}

@@ -5,8 +5,9 @@ use mathlib.Core.List.{List}
 use mathlib.Core.Bool.{Bool, false, cond, _&&_, _||_}
 use lib.Dec.{eqb, leb, ltb}
 use lib.ListN.{length, getD, take, drop, set, replicate}
-use Rattle.records.specs.Bytes.{bit}
-use Rattle.records.specs.Leaf.{readLeaf, stage1Of, stage2Of, limitsOf}
+use Rattle.descriptors.specs.Bits.{bit}
+use Rattle.records.specs.Leaf.{readLeaf}
+use Rattle.descriptors.specs.Descriptor.{stage1Of, stage2Of, limitsOf}
 use Rattle.records.specs.Setup.{readSetup}
 use Rattle.records.specs.declared.access.Level.{Level}
 use Rattle.records.specs.declared.access.Right.the-variants.{Read, Write, Execute}

@@ -6,7 +6,7 @@ use mathlib.Core.List.{List}
 use mathlib.Core.Bool.{cond}
 use lib.Bits.{bitAnd}
 use lib.ListN.{getD}
-use Rattle.records.specs.Bytes.{nibble}
+use Rattle.descriptors.specs.Bits.{nibble}
 use Rattle.records.specs.declared.access.Level.{Level}
 use Rattle.records.specs.declared.access.Level.the-variants.{Privileged, Unprivileged}
 use Rattle.records.specs.declared.access.Right.{Right}

@@ -76,8 +76,8 @@ pub(crate) fn plan_leaf(s: Setup, l: Level, leaf: &[u8]) -> LeafPlan
     let Answer::Permitted = check else {
         return LeafPlan::Refused(number_of(check));
     };
-    let one = records::leaf::read_stage1(f.stage1);
-    let two = records::leaf::read_stage2(f.stage2);
-    let t = records::leaf::read_limits(f.limits);
+    let one = descriptors::read_stage1(f.stage1);
+    let two = descriptors::read_stage2(f.stage2);
+    let t = descriptors::read_limits(f.limits);
     range_plan(f.forbidden, l, range::level_range(s, one, two, t, l))
 }

@@ -1,14 +1,14 @@
 // What the planner asks of a leaf at a level. Part of the rights layer. No public function has a `requires`.
 ghost use mathlib.Core.Path.{_≡_};
 ghost use Rattle.levels.specs.Level.{rangeFrom, rangeOf};
+use descriptors::Limits;
+use descriptors::Stage1;
+use descriptors::Stage2;
 use levels::LevelRange;
 use pass::pass_with;
 use pass::stage1_pass;
 use pass::stage2_pass;
 use records::access::Level;
-use records::leaf::Limits;
-use records::leaf::Stage1;
-use records::leaf::Stage2;
 use records::setup::Setup;
 use stages::level::LevelAnswer;
 

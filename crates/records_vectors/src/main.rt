@@ -1,11 +1,11 @@
 // Decodes the example of document 01 and the edges of the record layer, and prints what was found. Its expected output is `stdout`.
 ghost use Prim.Native.Nat.{_≤_};
 use libc::STDOUT_FILENO;
+use mapfile::FileRead;
 use records::access::Access;
 use records::access::AccessRead;
 use records::access::Level;
 use records::access::Right;
-use records::file::FileRead;
 use records::leaf::Leaf;
 use records::leaf::LeafRead;
 use records::setup::Control;
@@ -72,7 +72,7 @@ fn small(x: u8) -> u64 {
 }
 
 fn print_stage1(d: u64, pir: u64, por: u64) {
-    let f = records::leaf::read_stage1(d);
+    let f = descriptors::read_stage1(d);
     let i = f.piindex;
     let o = f.poindex;
     text(b"stage1");
@@ -93,7 +93,7 @@ fn print_stage1(d: u64, pir: u64, por: u64) {
 }
 
 fn print_stage2(d: u64) {
-    let f = records::leaf::read_stage2(d);
+    let f = descriptors::read_stage2(d);
     text(b"stage2");
     flag(b" valid", f.valid);
     flag(b" read", f.read);
@@ -113,7 +113,7 @@ fn print_leaf(b: &[u8], pir: u64, por: u64) {
     };
     print_stage1(l.stage1, pir, por);
     print_stage2(l.stage2);
-    let t = records::leaf::read_limits(l.limits);
+    let t = descriptors::read_limits(l.limits);
     text(b"limits");
     flag(b" aptable0", t.aptable0);
     flag(b" aptable1", t.aptable1);
@@ -163,7 +163,7 @@ fn print_read(file: &[u8], len: usize, setup: &mut [u8], leaves: &mut [u8], room
     if leaves.len() < room {
         return;
     }
-    match records::file::read_file(&file[..len], setup, &mut leaves[..room]) {
+    match mapfile::read_file(&file[..len], setup, &mut leaves[..room]) {
         FileRead::Map(n) => number(b" map ", n as u64),
         FileRead::Refused(k) => number(b" refused ", small(k)),
     }

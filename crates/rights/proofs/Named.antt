@@ -6,14 +6,14 @@ use Prim.Native.Nat.{ℕ, _≤_}
 use native.Mathlib.Omega.{arith}
 use lib.Dec.{leb, ltb}
 use Rattle.records.specs.Access.{accessAt}
-use Rattle.records.specs.Leaf.{codeAt, slotAt, stage1Of, stage2Of, limitsOf}
+use Rattle.descriptors.specs.Descriptor.{codeAt, slotAt, stage1Of, stage2Of, limitsOf}
 use Rattle.records.specs.declared.access.Access.{Access}
-use Rattle.records.specs.declared.index.PIIndex.{PIIndex}
+use Rattle.descriptors.specs.declared.index.PIIndex.{PIIndex}
 use Rattle.records.specs.declared.access.Right.{Right}
 use Rattle.records.specs.declared.leaf.Leaf.{Leaf}
-use Rattle.records.specs.declared.leaf.Limits.{Limits}
-use Rattle.records.specs.declared.leaf.Stage1.{Stage1}
-use Rattle.records.specs.declared.leaf.Stage2.{Stage2}
+use Rattle.descriptors.specs.declared.Limits.{Limits}
+use Rattle.descriptors.specs.declared.Stage1.{Stage1}
+use Rattle.descriptors.specs.declared.Stage2.{Stage2}
 use Rattle.records.specs.declared.setup.Control.{Control}
 use Rattle.records.specs.declared.setup.LevelRegisters.{LevelRegisters}
 use Rattle.records.specs.declared.setup.Setup.{Setup}

@@ -1,12 +1,12 @@
 -- Document 01, 'The order a judgement is made in', up to the attribute steps. Assumes nothing.
 use Prim.Native.Nat.{ℕ}
 use mathlib.Core.Bool.{cond}
-use Rattle.records.specs.Leaf.{stage1Of, stage2Of, limitsOf}
+use Rattle.descriptors.specs.Descriptor.{stage1Of, stage2Of, limitsOf}
 use Rattle.records.specs.declared.access.Access.{Access}
 use Rattle.records.specs.declared.leaf.Leaf.{Leaf}
-use Rattle.records.specs.declared.leaf.Limits.{Limits}
-use Rattle.records.specs.declared.leaf.Stage1.{Stage1}
-use Rattle.records.specs.declared.leaf.Stage2.{Stage2}
+use Rattle.descriptors.specs.declared.Limits.{Limits}
+use Rattle.descriptors.specs.declared.Stage1.{Stage1}
+use Rattle.descriptors.specs.declared.Stage2.{Stage2}
 use Rattle.records.specs.declared.setup.Setup.{Setup}
 use Rattle.checks.specs.Answers.{follow}
 use Rattle.checks.specs.Checks.{setupCheck, accessCheck, leafCheck}

@@ -9,11 +9,11 @@ use checks::checks::AccessCheck;
 use checks::checks::check_access;
 use checks::checks::check_leaf;
 use checks::checks::check_setup;
+use descriptors::Limits;
+use descriptors::Stage1;
+use descriptors::Stage2;
 use records::access::Access;
 use records::leaf::Leaf;
-use records::leaf::Limits;
-use records::leaf::Stage1;
-use records::leaf::Stage2;
 use records::setup::Setup;
 use stages::stage1::stage1_answer;
 use stages::stage2::stage2_answer;
@@ -51,9 +51,9 @@ pub fn judge_stages(s: Setup, one: Stage1, two: Stage2, t: Limits, a: Access) ->
 fn judge_leaf(s: Setup, l: Leaf, a: Access) -> Answer
     ensures { λ x. ⌜ x ≡ leafAnswer s l a ⌝ }
 {
-    let one = records::leaf::read_stage1(l.stage1);
-    let two = records::leaf::read_stage2(l.stage2);
-    let t = records::leaf::read_limits(l.limits);
+    let one = descriptors::read_stage1(l.stage1);
+    let two = descriptors::read_stage2(l.stage2);
+    let t = descriptors::read_limits(l.limits);
     judge_stages(s, one, two, t, a)
 }
 

@@ -2,7 +2,7 @@
 use Prim.Native.Nat.{ℕ}
 use mathlib.Core.Bool.{Bool, cond}
 use lib.Dec.{leb}
-use Rattle.records.specs.Bytes.{bit}
+use Rattle.descriptors.specs.Bits.{bit}
 use Rattle.records.specs.declared.access.Access.{Access}
 use Rattle.records.specs.declared.access.Level.{Level}
 use Rattle.records.specs.declared.access.Level.the-variants.{Privileged, Unprivileged}

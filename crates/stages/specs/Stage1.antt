@@ -1,9 +1,9 @@
 -- Document 01, 'The order a judgement is made in', stage 1: its steps for one access. Assumes nothing.
 use mathlib.Core.Bool.{Bool, cond, _&&_}
-use Rattle.records.specs.Leaf.{slotAt}
+use Rattle.descriptors.specs.Descriptor.{slotAt}
 use Rattle.records.specs.declared.access.Access.{Access}
-use Rattle.records.specs.declared.leaf.Limits.{Limits}
-use Rattle.records.specs.declared.leaf.Stage1.{Stage1}
+use Rattle.descriptors.specs.declared.Limits.{Limits}
+use Rattle.descriptors.specs.declared.Stage1.{Stage1}
 use Rattle.records.specs.declared.setup.Control.{Control}
 use Rattle.records.specs.declared.setup.Setup.{Setup}
 use Rattle.base.specs.Base.{baseOf}

@@ -4,7 +4,7 @@ use mathlib.Core.Bool.{Bool, true, false}
 use mathlib.Core.List.{[], _∷_}
 use lib.ListN.{getD}
 use Rattle.records.specs.declared.access.Access.{Access}
-use Rattle.records.specs.declared.leaf.Stage2.{Stage2}
+use Rattle.descriptors.specs.declared.Stage2.{Stage2}
 use Rattle.base.specs.Direct.{six}
 use Rattle.base.specs.declared.Rights.{Rights}
 use Rattle.checks.specs.Answers.{follow, faultUnless, descriptorAnswer}

@@ -12,9 +12,9 @@ use checks::answer::Answer;
 use checks::answer::Kind;
 use checks::answer::fault_unless;
 use checks::answer::refuse_if;
+use descriptors::Stage1;
 use records::access::Access;
 use records::access::Right;
-use records::leaf::Stage1;
 use records::setup::Setup;
 
 // What an overlay slot grants.

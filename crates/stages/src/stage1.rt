@@ -9,9 +9,9 @@ use base::BaseAnswer;
 use checks::answer::Answer;
 use checks::answer::Kind;
 use checks::answer::fault_unless;
+use descriptors::Limits;
+use descriptors::Stage1;
 use records::access::Access;
-use records::leaf::Limits;
-use records::leaf::Stage1;
 use records::setup::Control;
 use records::setup::Setup;
 

@@ -9,8 +9,8 @@ use base::Rights;
 use checks::answer::Answer;
 use checks::answer::Kind;
 use checks::answer::fault_unless;
+use descriptors::Stage2;
 use records::access::Access;
-use records::leaf::Stage2;
 
 // What a stage 2 descriptor grants.
 pub fn stage2_rights(d: Stage2) -> Rights

@@ -1,6 +1,6 @@
 -- `judge::judge_read` meets its contract: a fault or refusal stands, and a permitted access has the attribute steps. Assumes nothing.
 use Rattle.attributes.specs.Order.{attributesOf}
-use Rattle.records.specs.Leaf.{stage1Of, stage2Of}
+use Rattle.descriptors.specs.Descriptor.{stage1Of, stage2Of}
 use Rattle.judge.specs.Judge.{fetches, combined, judged}
 use Rattle.judge.proofs.Steps.{stops}
 use borrow.Author.Needs.{needs}

@@ -1,6 +1,6 @@
 -- `leaf::leaf_rights` meets its contract: 5 refuses the leaf; else both levels. Assumes nothing.
 use Rattle.attributes.specs.Order.{checkOf}
-use Rattle.records.specs.Leaf.{stage1Of, stage2Of, limitsOf}
+use Rattle.descriptors.specs.Descriptor.{stage1Of, stage2Of, limitsOf}
 use Rattle.levels.specs.Level.{levelsOf}
 use Rattle.judge.specs.Pass.{passLevels, leafPass}
 use Rattle.judge.proofs.Steps.{refuses}

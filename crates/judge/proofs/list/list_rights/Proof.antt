@@ -6,7 +6,7 @@ use native.Mathlib.Omega.{arith}
 use lib.ListN.{length, take, length-replicate}
 use lib.Seq.{length-take-le}
 use denote.Ref.{now}
-use Rattle.records.proofs.Fields.{copied}
+use Rattle.records.proofs.Copies.{copied}
 use Rattle.records.proofs.Lengths.{setup-13}
 use Rattle.records.specs.declared.setup.Setup.{Setup}
 use Rattle.checks.specs.Checks.{setupCheck}
