@@ -28,11 +28,11 @@ use Rattle.checks.specs.declared.answer.Answer.the-variants as answer
 use Rattle.stages.specs.declared.level.LevelAnswer.{LevelAnswer}
 use Rattle.stages.specs.declared.level.LevelAnswer.the-variants as level
 use Rattle.stages.specs.declared.level.LevelRights.{LevelRights}
-use Rattle.attributes.proofs.Laws.{passes, refuses}
-use Rattle.attributes.specs.Order.{attributesOf, checkOf}
-use Rattle.attributes.specs.declared.Check.{Check}
-use Rattle.attributes.specs.declared.Check.the-variants as check
-use Rattle.attributes.specs.declared.Memory.{Memory}
+use Rattle.memory.proofs.Laws.{passes, refuses}
+use Rattle.memory.specs.Order.{attributesOf, checkOf}
+use Rattle.memory.specs.declared.Check.{Check}
+use Rattle.memory.specs.declared.Check.the-variants as check
+use Rattle.memory.specs.declared.Memory.{Memory}
 use Rattle.judge.specs.Judge.{fetches, combined, after, judged}
 use Rattle.judge.specs.LeafRights.{weigh, add, gather, accesses, leafRights}
 use Rattle.judge.specs.Pass.{one, levelByte, checked, levelPart, join, leafPass}

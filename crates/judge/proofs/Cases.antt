@@ -11,11 +11,11 @@ use Rattle.checks.specs.Checks.{setupCheck, accessCheck, leafCheck}
 use Rattle.stages.specs.Stage1.{stage1Answer}
 use Rattle.rights.specs.Order.{stagesAnswer, rightsAnswer}
 use Rattle.stages.specs.Stage2.{xnPx, xnUx, stage2Rights, stage2Answer}
-use Rattle.attributes.specs.Combine.{combine, resultOf, resultByte}
-use Rattle.attributes.specs.Mair.{mairByte, offByte, stage1Byte, reservedByte}
-use Rattle.attributes.specs.Order.{memoryOf, attributesOf}
-use Rattle.attributes.specs.Shareability.{reservedSH, stage1SH, stage2SH, combinedSH, resultSH}
-use Rattle.attributes.specs.StageTwoType.{memAttrOf, reservedMemAttr}
+use Rattle.memory.specs.Combine.{combine, resultOf, resultByte}
+use Rattle.memory.specs.Mair.{mairByte, offByte, stage1Byte, reservedByte}
+use Rattle.memory.specs.Order.{memoryOf, attributesOf}
+use Rattle.memory.specs.Shareability.{reservedSH, stage1SH, stage2SH, combinedSH, resultSH}
+use Rattle.memory.specs.StageTwoType.{memAttrOf, reservedMemAttr}
 use Rattle.judge.specs.Cases.{Case, setupBytes, leafBytes, starred, plain, mair}
 use Rattle.judge.specs.Judge.{judged, judgeOf}
 use Rattle.judge.specs.LeafRights.{leafRights}

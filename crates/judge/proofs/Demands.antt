@@ -30,13 +30,13 @@ use Rattle.checks.specs.declared.answer.Answer.the-variants as answer
 use Rattle.checks.specs.declared.answer.Fault.{Fault}
 use Rattle.checks.specs.declared.answer.Kind.{Kind}
 use Rattle.checks.specs.declared.answer.Kind.the-variants.{Translation, AccessFlag, Permission, Overlay}
-use Rattle.attributes.proofs.Laws.{passes, refuses as attributes-refuse, eight-or-nine}
-use Rattle.attributes.specs.Order.{memoryOf, attributesOf, checkOf}
-use Rattle.attributes.specs.declared.Attributes.{Attributes}
-use Rattle.attributes.specs.declared.Attributes.the-variants as attributes
-use Rattle.attributes.specs.declared.Check.{Check}
-use Rattle.attributes.specs.declared.Check.the-variants as check
-use Rattle.attributes.specs.declared.Memory.{Memory}
+use Rattle.memory.proofs.Laws.{passes, refuses as attributes-refuse, eight-or-nine}
+use Rattle.memory.specs.Order.{memoryOf, attributesOf, checkOf}
+use Rattle.memory.specs.declared.Attributes.{Attributes}
+use Rattle.memory.specs.declared.Attributes.the-variants as attributes
+use Rattle.memory.specs.declared.Check.{Check}
+use Rattle.memory.specs.declared.Check.the-variants as check
+use Rattle.memory.specs.declared.Memory.{Memory}
 use Rattle.judge.proofs.Bits.{leaf-bits, walked}
 use Rattle.judge.specs.Answers.{kindNumber}
 use Rattle.judge.specs.Demands.{Demand1, stage1, stage2, Demand2, ListDemand, JudgeDemands, ListDemands}

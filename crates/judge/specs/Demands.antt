@@ -20,8 +20,8 @@ use Rattle.stages.specs.Stage2.{stage2Answer}
 use Rattle.checks.specs.declared.answer.Answer.{Answer}
 use Rattle.checks.specs.declared.answer.Answer.the-variants as answer
 use Rattle.checks.specs.declared.answer.Fault.{Fault}
-use Rattle.attributes.specs.Order.{memoryOf}
-use Rattle.attributes.specs.declared.Memory.{Memory}
+use Rattle.memory.specs.Order.{memoryOf}
+use Rattle.memory.specs.declared.Memory.{Memory}
 use Rattle.judge.specs.Answers.{Values, judgementValues}
 use Rattle.judge.specs.Judge.{fetches, judged}
 use Rattle.judge.specs.List.{leafAt}

@@ -15,9 +15,9 @@ use Rattle.records.specs.declared.setup.SetupRead.the-variants as setup
 use Rattle.rights.specs.Order.{rightsAnswer}
 use Rattle.checks.specs.declared.answer.Answer.{Answer}
 use Rattle.checks.specs.declared.answer.Answer.the-variants as answer
-use Rattle.attributes.specs.Order.{attributesOf}
-use Rattle.attributes.specs.declared.Attributes.{Attributes}
-use Rattle.attributes.specs.declared.Attributes.the-variants as attributes
+use Rattle.memory.specs.Order.{attributesOf}
+use Rattle.memory.specs.declared.Attributes.{Attributes}
+use Rattle.memory.specs.declared.Attributes.the-variants as attributes
 use Rattle.judge.specs.declared.judge.Judgement.{Judgement}
 use Rattle.judge.specs.declared.judge.Judgement.the-variants.{Allowed, Fault, Refused}
 

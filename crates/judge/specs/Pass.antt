@@ -14,9 +14,9 @@ use Rattle.levels.specs.declared.LeafLevels.{LeafLevels}
 use Rattle.stages.specs.declared.level.LevelAnswer.{LevelAnswer}
 use Rattle.stages.specs.declared.level.LevelAnswer.the-variants as level
 use Rattle.stages.specs.declared.level.LevelRights.{LevelRights}
-use Rattle.attributes.specs.Order.{checkOf}
-use Rattle.attributes.specs.declared.Check.{Check}
-use Rattle.attributes.specs.declared.Check.the-variants as check
+use Rattle.memory.specs.Order.{checkOf}
+use Rattle.memory.specs.declared.Check.{Check}
+use Rattle.memory.specs.declared.Check.the-variants as check
 use Rattle.judge.specs.declared.leaf.LeafRights.{LeafRights}
 use Rattle.judge.specs.declared.leaf.LeafRights.the-variants.{Rights, Refused}
 

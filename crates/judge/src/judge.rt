@@ -2,10 +2,10 @@
 ghost use mathlib.Core.Path.{_≡_};
 ghost use Rattle.judge.specs.Demands.{JudgeDemands};
 ghost use Rattle.judge.specs.Judge.{stopped, combined, judged, judgeOf};
-use attributes::Attributes;
-use attributes::Memory;
 use checks::answer::Answer;
 use checks::answer::Fault;
+use memory::Attributes;
+use memory::Memory;
 use records::leaf::Leaf;
 use records::leaf::LeafRead;
 use records::setup::Setup;

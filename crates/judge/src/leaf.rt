@@ -2,9 +2,9 @@
 ghost use mathlib.Core.Path.{_≡_};
 ghost use Prim.Native.Nat.{_<_};
 ghost use Rattle.judge.specs.Pass.{one, levelByte, levelPart, Below, passLevels, afterCheck, leafPass};
-use attributes::Check;
 use checks::answer::Answer;
 use levels::LeafLevels;
+use memory::Check;
 use records::leaf::Leaf;
 use records::setup::Setup;
 use stages::level::LevelAnswer;

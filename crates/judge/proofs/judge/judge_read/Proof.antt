@@ -1,5 +1,5 @@
 -- `judge::judge_read` meets its contract: a fault or refusal stands, and a permitted access has the attribute steps. Assumes nothing.
-use Rattle.attributes.specs.Order.{attributesOf}
+use Rattle.memory.specs.Order.{attributesOf}
 use Rattle.descriptors.specs.Descriptor.{stage1Of, stage2Of}
 use Rattle.judge.specs.Judge.{fetches, combined, judged}
 use Rattle.judge.proofs.Steps.{stops}
