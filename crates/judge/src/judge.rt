@@ -1,22 +1,14 @@
 // One access of a leaf.
 ghost use mathlib.Core.Path.{_≡_};
-ghost use Rattle.judge.specs.Demands.{JudgeDemands};
-ghost use Rattle.judge.specs.Judge.{stopped, combined, judged, judgeOf};
+ghost use Rattle.judgement.specs.Demands.{JudgeDemands};
+ghost use Rattle.judgement.specs.Judge.{stopped, combined, judged, judgeOf};
 use checks::answer::Answer;
-use checks::answer::Fault;
+use judgement::Judgement;
 use memory::Attributes;
-use memory::Memory;
 use records::leaf::Leaf;
 use records::leaf::LeafRead;
 use records::setup::Setup;
 use records::setup::SetupRead;
-
-// Allowed with byte and SH, a fault with stage and kind, or a refusal's number.
-pub enum Judgement {
-    Allowed(Memory),
-    Fault(Fault),
-    Refused(u8),
-}
 
 // The fault or refusal of an access that is not permitted.
 fn stopped(a: Answer) -> Judgement

@@ -2,8 +2,8 @@
 ghost use Prim.Native.Nat.{_≤_};
 use checks::answer::Fault;
 use checks::answer::Kind;
-use judge::judge::Judgement;
-use judge::list::Listed;
+use judgement::Judgement;
+use judgement::Listed;
 use libc::STDOUT_FILENO;
 
 fn text(t: &[u8]) {
@@ -159,7 +159,7 @@ fn print_listed(s: &[u8], leaves: &[u8], len: usize, out: &mut [u8], room: usize
     if out.len() < room {
         return;
     }
-    match judge::list::list_rights(s, &leaves[..len], &mut out[..room]) {
+    match lists::list_rights(s, &leaves[..len], &mut out[..room]) {
         Listed::Done(n) => number(b" done ", n as u64),
         Listed::Refused { number: k, leaf: i } => {
             number(b" refused ", small(k));

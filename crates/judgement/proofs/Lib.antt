@@ -1,0 +1,5 @@
+pub mod Steps
+pub mod Agree
+pub mod Bits
+pub mod Demands
+pub mod Cases
