@@ -5,12 +5,12 @@ use Rattle.records.specs.Bytes.{le64}
 use Rattle.records.specs.Leaf.{leafOf, readLeaf}
 use Rattle.descriptors.specs.Descriptor.{limitsOf, stage1Of, stage2Of}
 use Rattle.records.specs.Setup.{controlOf, setupOf, readSetup}
-use Rattle.base.specs.Base.{baseOf}
-use Rattle.base.specs.Direct.{ap, directTwo, directOne, directOf}
+use Rattle.permissions.specs.Base.{baseOf}
+use Rattle.permissions.specs.Direct.{ap, directTwo, directOne, directOf}
 use Rattle.checks.specs.Checks.{setupCheck, accessCheck, leafCheck}
-use Rattle.stages.specs.Stage1.{stage1Answer}
+use Rattle.stage1.specs.Stage1.{stage1Answer}
 use Rattle.rights.specs.Order.{stagesAnswer, rightsAnswer}
-use Rattle.stages.specs.Stage2.{xnPx, xnUx, stage2Rights, stage2Answer}
+use Rattle.stage2.specs.Stage2.{xnPx, xnUx, stage2Rights, stage2Answer}
 use Rattle.memory.specs.Combine.{combine, resultOf, resultByte}
 use Rattle.memory.specs.Mair.{mairByte, offByte, stage1Byte, reservedByte}
 use Rattle.memory.specs.Order.{memoryOf, attributesOf}

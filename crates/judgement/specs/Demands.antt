@@ -15,8 +15,8 @@ use Rattle.records.specs.declared.leaf.Leaf.{Leaf}
 use Rattle.records.specs.declared.leaf.LeafRead.the-variants as leaf
 use Rattle.records.specs.declared.setup.Setup.{Setup}
 use Rattle.records.specs.declared.setup.SetupRead.the-variants as setup
-use Rattle.stages.specs.Stage1.{stage1Answer}
-use Rattle.stages.specs.Stage2.{stage2Answer}
+use Rattle.stage1.specs.Stage1.{stage1Answer}
+use Rattle.stage2.specs.Stage2.{stage2Answer}
 use Rattle.checks.specs.declared.answer.Answer.{Answer}
 use Rattle.checks.specs.declared.answer.Answer.the-variants as answer
 use Rattle.checks.specs.declared.answer.Fault.{Fault}

@@ -19,16 +19,16 @@ use Rattle.descriptors.specs.declared.Stage1.{Stage1}
 use Rattle.descriptors.specs.declared.Stage2.{Stage2}
 use Rattle.records.specs.declared.setup.LevelBits.{LevelBits}
 use Rattle.records.specs.declared.setup.Setup.{Setup}
-use Rattle.base.specs.Base.{baseOf}
-use Rattle.base.specs.declared.BaseAnswer.{BaseAnswer}
-use Rattle.base.specs.declared.BaseAnswer.the-variants as base
+use Rattle.permissions.specs.Base.{baseOf}
+use Rattle.permissions.specs.declared.BaseAnswer.{BaseAnswer}
+use Rattle.permissions.specs.declared.BaseAnswer.the-variants as base
 use Rattle.checks.specs.Answers.{follow, faultOf, faultUnless, refuseIf, descriptorAnswer, permitted}
 use Rattle.levels.specs.Level.{collect, levelOf}
-use Rattle.stages.specs.Stage1.{dirty, baseAnswer, stage1Answer}
+use Rattle.stage1.specs.Stage1.{dirty, baseAnswer, stage1Answer}
 use Rattle.rights.specs.Order.{stagesAnswer}
 use Rattle.stages.specs.Overlay.{three, levelIn, hasRight, bitOf, registerOf, slotAnswer}
 use Rattle.levels.specs.Pass.{everything, fromBase, stage1Pass, stage2Pass, none, any, both, overlaid, passLevel, passWith, pass}
-use Rattle.stages.specs.Stage2.{stage2Rights, stage2Answer}
+use Rattle.stage2.specs.Stage2.{stage2Rights, stage2Answer}
 use Rattle.checks.specs.declared.answer.Answer.{Answer}
 use Rattle.checks.specs.declared.answer.Answer.the-variants.{Permitted, Refused}
 use Rattle.checks.specs.declared.answer.Kind.{Kind}

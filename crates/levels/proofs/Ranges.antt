@@ -19,7 +19,7 @@ use Rattle.descriptors.specs.declared.Stage1.{Stage1}
 use Rattle.descriptors.specs.declared.Stage2.{Stage2}
 use Rattle.records.specs.declared.setup.LevelBits.{LevelBits}
 use Rattle.records.specs.declared.setup.Setup.{Setup}
-use Rattle.base.specs.Base.{baseOf}
+use Rattle.permissions.specs.Base.{baseOf}
 use Rattle.levels.proofs.Agree.{agree}
 use Rattle.levels.specs.Level.{levelOf, rangeFrom, rangeOf, between}
 use Rattle.stages.specs.Overlay.{three, levelIn, bitOf, registerOf, slotRights}

@@ -10,15 +10,15 @@ use Rattle.descriptors.specs.declared.Stage1.{Stage1}
 use Rattle.descriptors.specs.declared.Stage2.{Stage2}
 use Rattle.records.specs.declared.setup.LevelBits.{LevelBits}
 use Rattle.records.specs.declared.setup.Setup.{Setup}
-use Rattle.base.specs.Base.{baseOf}
-use Rattle.base.specs.Direct.{six}
-use Rattle.base.specs.declared.Base.{Base}
-use Rattle.base.specs.declared.BaseAnswer.{BaseAnswer}
-use Rattle.base.specs.declared.BaseAnswer.the-variants as base
-use Rattle.base.specs.declared.Rights.{Rights as SixRights}
-use Rattle.stages.specs.Stage1.{dirty}
+use Rattle.permissions.specs.Base.{baseOf}
+use Rattle.permissions.specs.Direct.{six}
+use Rattle.permissions.specs.declared.Base.{Base}
+use Rattle.permissions.specs.declared.BaseAnswer.{BaseAnswer}
+use Rattle.permissions.specs.declared.BaseAnswer.the-variants as base
+use Rattle.permissions.specs.declared.Rights.{Rights as SixRights}
+use Rattle.stage1.specs.Stage1.{dirty}
 use Rattle.stages.specs.Overlay.{three, levelIn, bitOf, registerOf, slotRights}
-use Rattle.stages.specs.Stage2.{stage2Rights}
+use Rattle.stage2.specs.Stage2.{stage2Rights}
 use Rattle.levels.specs.declared.Stage1Pass.{Stage1Pass}
 use Rattle.levels.specs.declared.Stage1Pass.the-variants as one
 use Rattle.levels.specs.declared.Stage2Pass.{Stage2Pass}

@@ -2,24 +2,24 @@
 ghost use mathlib.Core.Path.{_≡_};
 ghost use Rattle.levels.specs.Level.{levelsOf};
 ghost use Rattle.levels.specs.Pass.{fromBase, stage1Pass, stage2Pass, any, overlaid, afterStage2, passLevel, passWith};
-use base::Base;
-use base::BaseAnswer;
-use base::Rights;
 use descriptors::Limits;
 use descriptors::Stage1;
 use descriptors::Stage2;
 use levels::LeafLevels;
 use levels::Stage1Pass;
 use levels::Stage2Pass;
+use permissions::Base;
+use permissions::BaseAnswer;
+use permissions::Rights;
 use records::access::Level;
 use records::setup::LevelBits;
 use records::setup::Setup;
+use stage2::stage2_rights;
 use stages::level::LevelAnswer;
 use stages::level::LevelRights;
 use stages::level::bit_of;
 use stages::level::level_in;
-use stages::overlay::slot_rights;
-use stages::stage2::stage2_rights;
+use stages::level::slot_rights;
 
 const EVERYTHING: Rights = Rights {
     pr: true,
@@ -45,7 +45,7 @@ pub fn stage1_pass(s: Setup, d: Stage1, t: Limits) -> Stage1Pass
     let c = s.control;
     if c.stage1 {
         if d.valid & d.af {
-            if stages::stage1::dirty_state(c, d) {
+            if stage1::dirty_state(c, d) {
                 return Stage1Pass::Refused(7);
             }
             return from_base(base::base_rights(s, d, t));

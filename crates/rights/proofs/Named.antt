@@ -17,17 +17,17 @@ use Rattle.descriptors.specs.declared.Stage2.{Stage2}
 use Rattle.records.specs.declared.setup.Control.{Control}
 use Rattle.records.specs.declared.setup.LevelRegisters.{LevelRegisters}
 use Rattle.records.specs.declared.setup.Setup.{Setup}
-use Rattle.base.specs.Base.{directBase, baseOf}
-use Rattle.base.specs.Indirect.{codeOf, granted, indirectOf}
-use Rattle.base.specs.declared.Base.{Base}
-use Rattle.base.specs.declared.BaseAnswer.{BaseAnswer}
-use Rattle.base.specs.declared.BaseAnswer.the-variants as base
+use Rattle.permissions.specs.Base.{directBase, baseOf}
+use Rattle.permissions.specs.Indirect.{codeOf, granted, indirectOf}
+use Rattle.permissions.specs.declared.Base.{Base}
+use Rattle.permissions.specs.declared.BaseAnswer.{BaseAnswer}
+use Rattle.permissions.specs.declared.BaseAnswer.the-variants as base
 use Rattle.checks.specs.Answers.{follow, faultUnless, refuseIf, descriptorAnswer}
 use Rattle.checks.specs.Checks.{clash, unjudged, setupCheck, accessCheck, leafCheck}
-use Rattle.stages.specs.Stage1.{dirty, baseAnswer, stage1Answer}
+use Rattle.stage1.specs.Stage1.{dirty, baseAnswer, stage1Answer}
 use Rattle.rights.specs.Order.{stagesAnswer, leafAnswer, afterAccess, rightsAnswer}
 use Rattle.stages.specs.Overlay.{hasRight, has, bitOf, registerOf, slotRights, slotAnswer}
-use Rattle.stages.specs.Stage2.{stage2Rights, stage2Answer}
+use Rattle.stage2.specs.Stage2.{stage2Rights, stage2Answer}
 use Rattle.checks.specs.declared.answer.Answer.{Answer}
 use Rattle.checks.specs.declared.answer.Answer.the-variants.{Permitted, Fault, Refused}
 use Rattle.checks.specs.declared.answer.Fault.{Fault as FaultOf}

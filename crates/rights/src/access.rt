@@ -1,8 +1,8 @@
 // One access, step by step: the first fault or refusal is the answer.
 ghost use mathlib.Core.Path.{_≡_};
 ghost use mathlib.Core.Bool.{cond};
-ghost use Rattle.stages.specs.Stage2.{stage2Answer};
-ghost use Rattle.stages.specs.Stage1.{stage1Answer};
+ghost use Rattle.stage2.specs.Stage2.{stage2Answer};
+ghost use Rattle.stage1.specs.Stage1.{stage1Answer};
 ghost use Rattle.rights.specs.Order.{stagesAnswer, leafAnswer, accessRefusal, rightsAnswer};
 use checks::answer::Answer;
 use checks::checks::AccessCheck;
@@ -15,8 +15,8 @@ use descriptors::Stage2;
 use records::access::Access;
 use records::leaf::Leaf;
 use records::setup::Setup;
-use stages::stage1::stage1_answer;
-use stages::stage2::stage2_answer;
+use stage1::stage1_answer;
+use stage2::stage2_answer;
 
 // A stage that is off permits everything.
 fn stage1_if_on(s: Setup, d: Stage1, t: Limits, a: Access) -> Answer

@@ -1,3 +1,1 @@
 pub mod Overlay
-pub mod Stage1
-pub mod Stage2

@@ -10,7 +10,7 @@ use Rattle.records.specs.declared.access.Right.{Right}
 use Rattle.records.specs.declared.access.Right.the-variants.{Read, Write, Execute}
 use Rattle.records.specs.declared.setup.LevelBits.{LevelBits}
 use Rattle.records.specs.declared.setup.LevelRegisters.{LevelRegisters}
-use Rattle.base.specs.declared.Rights.{Rights}
+use Rattle.permissions.specs.declared.Rights.{Rights}
 use Rattle.checks.specs.Answers.{follow, faultUnless, refuseIf}
 use Rattle.checks.specs.declared.answer.Answer.{Answer}
 use Rattle.checks.specs.declared.answer.Answer.the-variants.{Permitted}

@@ -1,14 +1,13 @@
 // The first steps of both stages.
 ghost use mathlib.Core.Path.{_≡_};
 ghost use Rattle.checks.specs.Answers.{descriptorAnswer};
-ghost use Rattle.stages.specs.Stage1.{dirty};
 use checks::answer::Answer;
 use checks::answer::Kind;
 use checks::answer::fault_unless;
 use checks::answer::refuse_if;
 
 // The first steps of a stage.
-pub(crate) fn descriptor_answer(stage: u8, valid: bool, af: bool, dirty: bool) -> Answer
+pub fn descriptor_answer(stage: u8, valid: bool, af: bool, dirty: bool) -> Answer
     ensures { λ x. ⌜ x ≡ descriptorAnswer stage valid af dirty ⌝ }
 {
     let translation = fault_unless(valid, stage, Kind::Translation);

@@ -1,7 +1,8 @@
-// Rights of a level, and the bit and register of a level.
+// Rights of a level, the bit and register of a level, and what an overlay slot grants.
 ghost use mathlib.Core.Path.{_≡_};
 ghost use Rattle.stages.specs.Overlay.{levelIn, hasRight, has, bitOf, registerOf};
-use base::Rights;
+ghost use Rattle.stages.specs.Overlay.{slotRights};
+use permissions::Rights;
 use records::access::Access;
 use records::access::Level;
 use records::access::Right;
@@ -69,10 +70,21 @@ pub fn register_of(r: LevelRegisters, l: Level) -> u64
     }
 }
 
-pub(crate) fn has(r: Rights, a: Access) -> bool
+pub fn has(r: Rights, a: Access) -> bool
     ensures { λ x. ⌜ x ≡ has r a ⌝ }
 {
     let level = a.level;
     let right = a.right;
     has_right(level_in(r, level), right)
+}
+
+// What an overlay slot grants.
+pub fn slot_rights(v: u8) -> LevelRights
+    ensures { λ x. ⌜ x ≡ slotRights v ⌝ }
+{
+    LevelRights {
+        read: (v >> 0) % 2 == 1,
+        write: (v >> 2) % 2 == 1,
+        execute: (v >> 1) % 2 == 1,
+    }
 }

@@ -1,7 +1,4 @@
-// Stage 1 and stage 2 of one access, each up to its last permission step (document 01, 'Stage 1 rights' from the overlay on, and 'Stage 2
-// rights'). Part of the rights layer. No public function has a `requires`.
+// What the steps of both stages share: rights of a level, the overlay slot, and the first steps of a stage. Part of the rights layer. No
+// public function has a `requires`.
 pub mod descriptor;
 pub mod level;
-pub mod overlay;
-pub mod stage1;
-pub mod stage2;
