@@ -3,3 +3,4 @@ pub mod Agree
 pub mod Bits
 pub mod Demands
 pub mod Cases
+pub mod Bounds

@@ -8,3 +8,4 @@ pub mod Leaves
 pub mod Starts
 pub mod Theorem
 pub mod Consequences
+pub mod Bounds

@@ -1,0 +1,59 @@
+// Answers packed into 64 bits.
+ghost use mathlib.Core.Path.{_≡_};
+ghost use Prim.Native.Nat.{_+_, _*_, _^_, _<_};
+ghost use Rattle.descriptors.specs.Bits.{field};
+ghost use Rattle.judgement.specs.Answers.{judgementValues, kindNumber};
+ghost use Rattle.sonsiplex.specs.Packing.{packJudgement, judgementFields, numbers, packNumbers};
+use checks::answer::Kind;
+use judgement::Judgement;
+
+fn wide(x: u8) -> u64
+    ensures { λ r. ⌜ r ≡ x ⌝ }
+{
+    x as u64
+}
+
+fn kind_number(k: Kind) -> u8
+    ensures { λ r. ⌜ r ≡ kindNumber k ⌝ }
+{
+    match k {
+        Kind::Translation => 1,
+        Kind::AccessFlag => 2,
+        Kind::Permission => 3,
+        Kind::Overlay => 4,
+    }
+}
+
+fn pack_values(number: u8, stage: u8, kind: u8, byte: u8, sh: u8) -> u64
+    ensures packed { λ r. ⌜ r ≡ number + 2 ^ 8 * stage + 2 ^ 16 * kind + 2 ^ 24 * byte + 2 ^ 32 * sh ⌝ }
+    ensures low { λ r. ⌜ (field r 0 8 ≡ number) × (field r 8 8 ≡ stage) × (field r 16 8 ≡ kind) ⌝ }
+    ensures high { λ r. ⌜ (field r 24 8 ≡ byte) × (field r 32 8 ≡ sh) ⌝ }
+{
+    wide(number)
+        + 0x100 * wide(stage)
+        + 0x10000 * wide(kind)
+        + 0x1000000 * wide(byte)
+        + 0x100000000 * wide(sh)
+}
+
+pub(crate) fn pack_judgement(j: Judgement) -> u64
+    ensures packed { λ r. ⌜ r ≡ packJudgement j ⌝ }
+    ensures fields { λ r. ⌜ judgementFields r ≡ judgementValues j ⌝ }
+{
+    match j {
+        Judgement::Allowed(m) => pack_values(0, 0, 0, m.byte, m.sh),
+        Judgement::Fault(f) => {
+            let k = f.kind;
+            pack_values(0, f.stage, kind_number(k), 0, 0)
+        }
+        Judgement::Refused(n) => pack_values(n, 0, 0, 0, 0),
+    }
+}
+
+pub(crate) fn pack_numbers(number: u8, leaf: usize, value: u64) -> u64
+    requires { ⌜ (leaf < 2 ^ 16) × (value < 2 ^ 32) ⌝ }
+    ensures packed { λ r. ⌜ r ≡ packNumbers (numbers number leaf value) ⌝ }
+    ensures fields { λ r. ⌜ (field r 0 8 ≡ number) × (field r 16 16 ≡ leaf) × (field r 32 32 ≡ value) ⌝ }
+{
+    wide(number) + 0x10000 * leaf as u64 + 0x100000000 * value
+}
