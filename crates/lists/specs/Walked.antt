@@ -1,4 +1,4 @@
--- What `list::fill` answers: private to the layer. Assumes nothing.
+-- What `fill` answers: private to the layer. Assumes nothing.
 use Prim.Native.Nat.{ℕ}
 use mathlib.Core.List.{List}
 use lib.ListN.{take}

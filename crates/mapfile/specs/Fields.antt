@@ -1,4 +1,4 @@
--- What `file::leaf_fields` answers: private to the layer. Assumes nothing.
+-- What `leaf_fields` answers: private to the layer. Assumes nothing.
 use Prim.Native.Nat.{ℕ, _*_}
 use mathlib.Core.List.{List}
 use lib.ListN.{take}

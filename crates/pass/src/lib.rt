@@ -152,7 +152,7 @@ pub fn pass_with(o: LevelBits, one: Stage1Pass, v: u8, t: Stage2Pass, l: Level) 
     }
 }
 
-// The rights of both levels: a right is on exactly where `access::judge_stages` permits its access.
+// The rights of both levels: a right is on exactly where `rights::access::judge_stages` permits its access.
 pub fn leaf_levels(s: Setup, one: Stage1, two: Stage2, t: Limits) -> LeafLevels
     ensures { λ x. ⌜ x ≡ levelsOf s one two t ⌝ }
 {

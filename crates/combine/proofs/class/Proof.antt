@@ -1,4 +1,4 @@
--- `combine::class` meets its contract: each test is the definition's. Assumes nothing.
+-- `class` meets its contract: each test is the definition's. Assumes nothing.
 use borrow.Author.Tests.{eq-eqb, ne-eqb}
 use Rattle.combine.proofs.class.Statement.{statement}
 use Rattle.combine.proofs.class.Tie as tie

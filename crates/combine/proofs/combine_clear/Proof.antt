@@ -1,4 +1,4 @@
--- `combine::combine_clear` meets its contract: the test is the definition's, and each class is its level's. Assumes nothing.
+-- `combine_clear` meets its contract: the test is the definition's, and each class is its level's. Assumes nothing.
 use borrow.Author.Needs.{needs}
 use Rattle.combine.proofs.combine_clear.Statement.{statement}
 use Rattle.combine.proofs.combine_clear.Tie as tie

@@ -1,4 +1,4 @@
--- `combine::combine_set` meets its contract: each arm's number picks its case. Assumes nothing.
+-- `combine_set` meets its contract: each arm's number picks its case. Assumes nothing.
 use borrow.Author.Tests.{ne-eqb}
 use borrow.Author.Needs.{needs}
 use Rattle.combine.proofs.combine_set.Statement.{statement}

@@ -1,4 +1,4 @@
--- `combine::combined` meets its contract: each test is the definition's. Assumes nothing.
+-- `combined` meets its contract: each test is the definition's. Assumes nothing.
 use Rattle.memory.specs.Combine.{combine}
 use borrow.Author.Tests.{lt-ltb, le-ltb}
 use borrow.Author.Needs.{needs}

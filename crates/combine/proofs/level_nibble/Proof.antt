@@ -1,4 +1,4 @@
--- `combine::level_nibble` meets its contract: each test is the definition's. Assumes nothing.
+-- `level_nibble` meets its contract: each test is the definition's. Assumes nothing.
 use borrow.Author.Tests.{eq-eqb, ne-eqb}
 use borrow.Author.Needs.{needs}
 use Rattle.combine.proofs.level_nibble.Statement.{statement}

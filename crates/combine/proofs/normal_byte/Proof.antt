@@ -1,4 +1,4 @@
--- `combine::normal_byte` meets its contract: a nibble for each level. Assumes nothing.
+-- `normal_byte` meets its contract: a nibble for each level. Assumes nothing.
 use borrow.Author.Needs.{needs}
 use Rattle.combine.proofs.normal_byte.Statement.{statement}
 use Rattle.combine.proofs.normal_byte.Tie as tie

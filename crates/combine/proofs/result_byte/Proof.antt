@@ -1,4 +1,4 @@
--- `combine::result_byte` meets its contract: the test is the definition's. Assumes nothing.
+-- `result_byte` meets its contract: the test is the definition's. Assumes nothing.
 use Rattle.memory.specs.Combine.{resultOf}
 use borrow.Author.Needs.{needs}
 use Rattle.combine.proofs.result_byte.Statement.{statement}

@@ -1,4 +1,4 @@
--- `combine::weaker_class` meets its contract: the test is the definition's. Assumes nothing.
+-- `weaker_class` meets its contract: the test is the definition's. Assumes nothing.
 use borrow.Author.Tests.{le-leb, lt-leb}
 use borrow.Author.Needs.{needs}
 use Rattle.combine.proofs.weaker_class.Statement.{statement}

@@ -1,4 +1,4 @@
--- `combine::with_device` meets its contract: the test is the definition's. Assumes nothing.
+-- `with_device` meets its contract: the test is the definition's. Assumes nothing.
 use borrow.Author.Needs.{needs}
 use Rattle.combine.proofs.with_device.Statement.{statement}
 use Rattle.combine.proofs.with_device.Tie as tie

@@ -1,4 +1,4 @@
--- `leaf::plan_leaf` meets its contract: the first refusal stands. Assumes nothing.
+-- `plan_leaf` meets its contract: the first refusal stands. Assumes nothing.
 use Rattle.plan.specs.Plan.{leafPlanOf}
 use Rattle.plan.specs.declared.LeafPlan.the-variants.{Refused}
 use Rattle.plan.proofs.Steps.{stands}

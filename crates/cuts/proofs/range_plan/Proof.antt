@@ -1,4 +1,4 @@
--- `leaf::range_plan` meets its contract: by what the rights layer answered. Assumes nothing.
+-- `range_plan` meets its contract: by what the rights layer answered. Assumes nothing.
 use borrow.Author.Needs.{needs}
 use Rattle.cuts.proofs.range_plan.Statement.{statement}
 use Rattle.cuts.proofs.range_plan.Tie as tie

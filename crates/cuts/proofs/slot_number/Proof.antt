@@ -1,4 +1,4 @@
--- `masks::slot_number` meets its contract: a truth value is 0 or 1. Assumes nothing.
+-- `slot_number` meets its contract: a truth value is 0 or 1. Assumes nothing.
 use native.Mathlib.Omega.{arith}
 use Rattle.plan.proofs.Bits.{byte-is, byte-low}
 use borrow.Author.Needs.{needs}

@@ -1,4 +1,4 @@
--- `leaf::read_limits` meets its contract: each field is its bit. Assumes nothing.
+-- `read_limits` meets its contract: each field is its bit. Assumes nothing.
 use mathlib.Core.Path.{refl}
 use Rattle.descriptors.specs.Descriptor.{limitsOf}
 use Rattle.descriptors.proofs.read_limits.Statement.{statement}

@@ -1,4 +1,4 @@
--- `leaf::read_stage1` meets its contract: each field is its bits. Assumes nothing.
+-- `read_stage1` meets its contract: each field is its bits. Assumes nothing.
 use Rattle.descriptors.specs.Descriptor.{stage1Of}
 use borrow.Author.Needs.{needs}
 use Rattle.descriptors.proofs.read_stage1.Statement.{statement}

@@ -1,4 +1,4 @@
--- `leaf::read_stage2` meets its contract: each field is its bits. Assumes nothing.
+-- `read_stage2` meets its contract: each field is its bits. Assumes nothing.
 use mathlib.Core.Path.{refl}
 use Rattle.descriptors.specs.Descriptor.{stage2Of}
 use borrow.Author.Needs.{needs}

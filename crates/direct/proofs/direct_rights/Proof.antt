@@ -1,4 +1,4 @@
--- `direct::direct_rights` meets its contract: by the number of levels. Assumes nothing.
+-- `direct_rights` meets its contract: by the number of levels. Assumes nothing.
 use Rattle.permissions.specs.Direct.{directOf}
 use borrow.Author.Needs.{needs}
 use Rattle.direct.proofs.direct_rights.Statement.{statement}

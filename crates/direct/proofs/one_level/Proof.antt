@@ -1,4 +1,4 @@
--- `direct::one_level` meets its contract: each step is the code's own. Assumes nothing.
+-- `one_level` meets its contract: each step is the code's own. Assumes nothing.
 use mathlib.Core.Path.{refl}
 use Rattle.permissions.specs.Direct.{directOne}
 use Rattle.direct.proofs.one_level.Statement.{statement}

@@ -1,4 +1,4 @@
--- `direct::two_levels` meets its contract: AP's table is the formula, and each other step is the code's own. Assumes nothing.
+-- `two_levels` meets its contract: AP's table is the formula, and each other step is the code's own. Assumes nothing.
 use Rattle.permissions.specs.Direct.{directTwo}
 use Rattle.permissions.proofs.Tables.{ap-is}
 use Rattle.direct.proofs.two_levels.Statement.{statement}

@@ -1,4 +1,4 @@
--- `indirect::base_code` meets its contract: the table's rule. Assumes nothing.
+-- `base_code` meets its contract: the table's rule. Assumes nothing.
 use Rattle.permissions.proofs.Tables.{code-is}
 use borrow.Author.Needs.{needs}
 use Rattle.indirect.proofs.base_code.Statement.{statement}

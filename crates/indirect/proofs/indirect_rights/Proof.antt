@@ -1,4 +1,4 @@
--- `indirect::indirect_rights` meets its contract: the step on both codes. Assumes nothing.
+-- `indirect_rights` meets its contract: the step on both codes. Assumes nothing.
 use Rattle.permissions.specs.Indirect.{indirectOf}
 use borrow.Author.Needs.{needs}
 use Rattle.indirect.proofs.indirect_rights.Statement.{statement}

@@ -1,4 +1,4 @@
--- `indirect::indirect_step` meets its contract: each test picks its case. Assumes nothing.
+-- `indirect_step` meets its contract: each test picks its case. Assumes nothing.
 use Rattle.indirect.proofs.indirect_step.Statement.{statement}
 use Rattle.indirect.proofs.indirect_step.Tie as tie
 

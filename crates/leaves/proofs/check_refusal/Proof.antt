@@ -1,4 +1,4 @@
--- `leaf::check_refusal` meets its contract: by the case. Assumes nothing.
+-- `check_refusal` meets its contract: by the case. Assumes nothing.
 use borrow.Author.Needs.{needs}
 use Rattle.leaves.proofs.check_refusal.Statement.{statement}
 use Rattle.leaves.proofs.check_refusal.Tie as tie

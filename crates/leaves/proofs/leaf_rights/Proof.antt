@@ -1,4 +1,4 @@
--- `leaf::leaf_rights` meets its contract: 5 refuses the leaf; else both levels. Assumes nothing.
+-- `leaf_rights` meets its contract: 5 refuses the leaf; else both levels. Assumes nothing.
 use Rattle.memory.specs.Order.{checkOf}
 use Rattle.descriptors.specs.Descriptor.{stage1Of, stage2Of, limitsOf}
 use Rattle.levels.specs.Level.{levelsOf}

@@ -1,4 +1,4 @@
--- `leaf::level_part` meets its contract: by the cases. Assumes nothing.
+-- `level_part` meets its contract: by the cases. Assumes nothing.
 use borrow.Author.Tests.{eq-eqb, ne-eqb}
 use borrow.Author.Needs.{needs}
 use Rattle.leaves.proofs.level_part.Statement.{statement}

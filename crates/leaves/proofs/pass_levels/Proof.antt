@@ -1,4 +1,4 @@
--- `leaf::pass_levels` meets its contract: the parts of the levels, each below 8. Assumes nothing.
+-- `pass_levels` meets its contract: the parts of the levels, each below 8. Assumes nothing.
 use native.Mathlib.Omega.{arith}
 use borrow.Author.Needs.{needs}
 use Rattle.leaves.proofs.pass_levels.Statement.{statement}

@@ -1,4 +1,4 @@
--- `list::fill` meets its contract. The loop's invariant: the walk is the bytes in place, and then the walk from leaf i on. The measure is
+-- `fill` meets its contract. The loop's invariant: the walk is the bytes in place, and then the walk from leaf i on. The measure is
 -- the leaves that are left. Assumes nothing.
 use borrow.Author.Needs.{needs}
 use mathlib.Core.Path.{_≡_, refl, sym, ap, _∙_}

@@ -1,4 +1,4 @@
--- `list::list_rights` meets its contract: each test picks its case of `listOf`, and the walk that `fill` made is the list's. Assumes nothing.
+-- `list_rights` meets its contract: each test picks its case of `listOf`, and the walk that `fill` made is the list's. Assumes nothing.
 use mathlib.Core.Path.{_≡_, sym, ap, _∙_}
 use mathlib.Core.List.{List}
 use Prim.Native.Nat.{ℕ, _/_, _≤_}

@@ -1,4 +1,4 @@
--- `list::pass_at` meets its contract: the 18 bytes of a leaf are read, so that no length is refused. Assumes nothing.
+-- `pass_at` meets its contract: the 18 bytes of a leaf are read, so that no length is refused. Assumes nothing.
 use mathlib.Core.Path.{_≡_, sym, _∙_}
 use mathlib.Core.List.{List}
 use Prim.Native.Nat.{ℕ, _*_, _+_, _-_, _≤_}

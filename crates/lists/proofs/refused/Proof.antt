@@ -1,4 +1,4 @@
--- `list::refused` meets its contract: by the case. Assumes nothing.
+-- `refused` meets its contract: by the case. Assumes nothing.
 use borrow.Author.Needs.{needs}
 use Rattle.lists.proofs.refused.Statement.{statement}
 use Rattle.lists.proofs.refused.Tie as tie

@@ -1,4 +1,4 @@
--- `file::begins_with` meets its contract: the tests on the slice from `at` on are those of `beginsWith` on what is left of it.
+-- `begins_with` meets its contract: the tests on the slice from `at` on are those of `beginsWith` on what is left of it.
 -- Assumes nothing.
 use native.Mathlib.Nat.{add-zero, add-assoc}
 use lib.ListN.{length-drop}

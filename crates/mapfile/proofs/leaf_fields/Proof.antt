@@ -1,4 +1,4 @@
--- `file::leaf_fields` meets its contract. The loop's invariant: what is found from the first leaf field on is the n fields whose
+-- `leaf_fields` meets its contract. The loop's invariant: what is found from the first leaf field on is the n fields whose
 -- values are in place, and then what is found from `at` on. The measure is what is left of the file. Assumes nothing.
 use borrow.Author.Needs.{needs}
 use mathlib.Core.Path.{_≡_, refl, sym, _∙_}

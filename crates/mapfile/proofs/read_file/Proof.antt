@@ -1,4 +1,4 @@
--- `file::read_file` meets its contract: what `leaf_fields` found is what the file holds, and each test picks its case of `resultOf`.
+-- `read_file` meets its contract: what `leaf_fields` found is what the file holds, and each test picks its case of `resultOf`.
 -- Assumes nothing.
 use mathlib.Core.Path.{_≡_, refl, sym, ap, _∙_}
 use mathlib.Core.List.{List}

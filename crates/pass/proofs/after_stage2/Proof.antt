@@ -1,4 +1,4 @@
--- `level::after_stage2` meets its contract: by what stage 2 gives. Assumes nothing.
+-- `after_stage2` meets its contract: by what stage 2 gives. Assumes nothing.
 use borrow.Author.Needs.{needs}
 use Rattle.pass.proofs.after_stage2.Statement.{statement}
 use Rattle.pass.proofs.after_stage2.Tie as tie

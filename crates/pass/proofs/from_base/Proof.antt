@@ -1,4 +1,4 @@
--- `level::from_base` meets its contract: by the case. Assumes nothing.
+-- `from_base` meets its contract: by the case. Assumes nothing.
 use borrow.Author.Needs.{needs}
 use Rattle.pass.proofs.from_base.Statement.{statement}
 use Rattle.pass.proofs.from_base.Tie as tie

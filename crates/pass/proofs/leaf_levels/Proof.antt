@@ -1,4 +1,4 @@
--- `level::leaf_levels` meets its contract: the pass gives the rights of each level, by the law `agree`. Assumes nothing.
+-- `leaf_levels` meets its contract: the pass gives the rights of each level, by the law `agree`. Assumes nothing.
 use Rattle.levels.specs.Level.{levelsOf}
 use Rattle.records.specs.declared.access.Level.the-variants.{Privileged, Unprivileged}
 use Rattle.levels.proofs.Agree.{agree}

@@ -1,4 +1,4 @@
--- `level::pass_level` meets its contract: a reserved slot that is met, else what the slot and stage 2 leave. Assumes nothing.
+-- `pass_level` meets its contract: a reserved slot that is met, else what the slot and stage 2 leave. Assumes nothing.
 use borrow.Author.Needs.{needs}
 use Rattle.pass.proofs.pass_level.Statement.{statement}
 use Rattle.pass.proofs.pass_level.Tie as tie

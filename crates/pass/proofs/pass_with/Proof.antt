@@ -1,4 +1,4 @@
--- `level::pass_with` meets its contract: by what stage 1 gives. Assumes nothing.
+-- `pass_with` meets its contract: by what stage 1 gives. Assumes nothing.
 use borrow.Author.Needs.{needs}
 use Rattle.pass.proofs.pass_with.Statement.{statement}
 use Rattle.pass.proofs.pass_with.Tie as tie

@@ -1,4 +1,4 @@
--- `level::stage1_pass` meets its contract: each test picks its case. Assumes nothing.
+-- `stage1_pass` meets its contract: each test picks its case. Assumes nothing.
 use Rattle.levels.specs.Pass.{stage1Pass}
 use borrow.Author.Needs.{needs}
 use Rattle.pass.proofs.stage1_pass.Statement.{statement}

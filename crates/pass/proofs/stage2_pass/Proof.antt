@@ -1,4 +1,4 @@
--- `level::stage2_pass` meets its contract: each test picks its case. Assumes nothing.
+-- `stage2_pass` meets its contract: each test picks its case. Assumes nothing.
 use Rattle.levels.specs.Pass.{stage2Pass}
 use borrow.Author.Needs.{needs}
 use Rattle.pass.proofs.stage2_pass.Statement.{statement}

@@ -1,4 +1,4 @@
--- `range::level_range` meets its contract: every slot of 77777777 is 7 and every slot of 0 is 0, by the law `range-is`. Assumes nothing.
+-- `level_range` meets its contract: every slot of 77777777 is 7 and every slot of 0 is 0, by the law `range-is`. Assumes nothing.
 use Rattle.levels.proofs.Ranges.{range-is}
 use borrow.Author.Needs.{needs}
 use Rattle.range.proofs.level_range.Statement.{statement}

@@ -1,4 +1,4 @@
--- `range::range_from` meets its contract: by the cases. Assumes nothing.
+-- `range_from` meets its contract: by the cases. Assumes nothing.
 use borrow.Author.Needs.{needs}
 use Rattle.range.proofs.range_from.Statement.{statement}
 use Rattle.range.proofs.range_from.Tie as tie

@@ -1,4 +1,4 @@
--- `shareability::combined_sh` meets its contract: each test is the definition's. Assumes nothing.
+-- `combined_sh` meets its contract: each test is the definition's. Assumes nothing.
 use Rattle.memory.specs.Shareability.{combinedSH}
 use borrow.Author.Needs.{needs}
 use Rattle.shareability.proofs.combined_sh.Statement.{statement}

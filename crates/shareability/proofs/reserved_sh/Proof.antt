@@ -1,4 +1,4 @@
--- `shareability::reserved_sh` meets its contract: it is the definition. Assumes nothing.
+-- `reserved_sh` meets its contract: it is the definition. Assumes nothing.
 use mathlib.Core.Path.{refl}
 use Rattle.memory.specs.Shareability.{reservedSH}
 use Rattle.shareability.proofs.reserved_sh.Statement.{statement}

@@ -1,4 +1,4 @@
--- `shareability::shareability_code` meets its contract: the test is the definition's. Assumes nothing.
+-- `shareability_code` meets its contract: the test is the definition's. Assumes nothing.
 use borrow.Author.Needs.{needs}
 use Rattle.shareability.proofs.shareability_code.Statement.{statement}
 use Rattle.shareability.proofs.shareability_code.Tie as tie

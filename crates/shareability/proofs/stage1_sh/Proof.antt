@@ -1,4 +1,4 @@
--- `shareability::stage1_sh` meets its contract: each test is the definition's. Assumes nothing.
+-- `stage1_sh` meets its contract: each test is the definition's. Assumes nothing.
 use Rattle.memory.specs.Shareability.{stage1SH}
 use borrow.Author.Needs.{needs}
 use Rattle.shareability.proofs.stage1_sh.Statement.{statement}

@@ -1,4 +1,4 @@
--- `shareability::stage2_sh` meets its contract: the test is the definition's. Assumes nothing.
+-- `stage2_sh` meets its contract: the test is the definition's. Assumes nothing.
 use Rattle.memory.specs.StageTwoType.{memAttrOf}
 use Rattle.memory.specs.Shareability.{stage2SH}
 use borrow.Author.Needs.{needs}

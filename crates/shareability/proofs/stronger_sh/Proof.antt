@@ -1,4 +1,4 @@
--- `shareability::stronger_sh` meets its contract: each test is the definition's. Assumes nothing.
+-- `stronger_sh` meets its contract: each test is the definition's. Assumes nothing.
 use Rattle.shareability.proofs.stronger_sh.Statement.{statement}
 use Rattle.shareability.proofs.stronger_sh.Tie as tie
 

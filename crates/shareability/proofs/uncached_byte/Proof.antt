@@ -1,4 +1,4 @@
--- `shareability::uncached_byte` meets its contract: it is the definition. Assumes nothing.
+-- `uncached_byte` meets its contract: it is the definition. Assumes nothing.
 use borrow.Author.Needs.{needs}
 use Rattle.shareability.proofs.uncached_byte.Statement.{statement}
 use Rattle.shareability.proofs.uncached_byte.Tie as tie

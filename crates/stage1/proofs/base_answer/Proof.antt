@@ -1,4 +1,4 @@
--- `access::base_answer` meets its contract: a refusal, or the permission and then the overlay. Assumes nothing.
+-- `base_answer` meets its contract: a refusal, or the permission and then the overlay. Assumes nothing.
 use Rattle.checks.proofs.Steps.{stands}
 use borrow.Author.Needs.{needs}
 use Rattle.stage1.proofs.base_answer.Statement.{statement}

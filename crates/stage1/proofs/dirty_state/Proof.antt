@@ -1,4 +1,4 @@
--- `access::dirty_state` meets its contract: by Direct or Indirect. Assumes nothing.
+-- `dirty_state` meets its contract: by Direct or Indirect. Assumes nothing.
 use Rattle.stage1.proofs.dirty_state.Statement.{statement}
 use Rattle.stage1.proofs.dirty_state.Tie as tie
 

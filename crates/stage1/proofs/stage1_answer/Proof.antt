@@ -1,4 +1,4 @@
--- `access::stage1_answer` meets its contract: a fault or refusal of the first steps stands. Assumes nothing.
+-- `stage1_answer` meets its contract: a fault or refusal of the first steps stands. Assumes nothing.
 use Rattle.stage1.specs.Stage1.{stage1Answer}
 use Rattle.checks.proofs.Steps.{stands}
 use borrow.Author.Needs.{needs}

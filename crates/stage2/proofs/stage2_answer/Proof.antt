@@ -1,4 +1,4 @@
--- `access::stage2_answer` meets its contract: a fault or refusal of the first steps stands. Assumes nothing.
+-- `stage2_answer` meets its contract: a fault or refusal of the first steps stands. Assumes nothing.
 use Rattle.stage2.specs.Stage2.{stage2Answer}
 use Rattle.checks.proofs.Steps.{stands}
 use borrow.Author.Needs.{needs}

@@ -1,4 +1,4 @@
--- `start::begin` meets its contract: the first refusal stands. Assumes nothing.
+-- `begin` meets its contract: the first refusal stands. Assumes nothing.
 use Rattle.plan.specs.Plan.{startOf}
 use Rattle.plan.specs.declared.Start.the-variants.{Refused}
 use Rattle.plan.proofs.Steps.{stands}

@@ -1,4 +1,4 @@
--- `start::is_on` meets its contract: by the level. Assumes nothing.
+-- `is_on` meets its contract: by the level. Assumes nothing.
 use borrow.Author.Needs.{needs}
 use Rattle.starts.proofs.is_on.Statement.{statement}
 use Rattle.starts.proofs.is_on.Tie as tie

@@ -1,4 +1,4 @@
--- `access::overlay_answer` meets its contract: the parts of its level. Assumes nothing.
+-- `overlay::overlay_answer` meets its contract: the parts of its level. Assumes nothing.
 use borrow.Author.Needs.{needs}
 use Rattle.stage1.proofs.overlay.overlay_answer.Statement.{statement}
 use Rattle.stage1.proofs.overlay.overlay_answer.Tie as tie

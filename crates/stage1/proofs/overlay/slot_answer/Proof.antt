@@ -1,4 +1,4 @@
--- `access::slot_answer` meets its contract: a reserved slot stands before an Overlay fault. Assumes nothing.
+-- `overlay::slot_answer` meets its contract: a reserved slot stands before an Overlay fault. Assumes nothing.
 use Rattle.checks.proofs.Steps.{stands}
 use borrow.Author.Needs.{needs}
 use Rattle.stage1.proofs.overlay.slot_answer.Statement.{statement}

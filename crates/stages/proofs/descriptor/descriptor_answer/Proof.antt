@@ -1,4 +1,4 @@
--- `access::descriptor_answer` meets its contract: the first fault or refusal stands. Assumes nothing.
+-- `descriptor::descriptor_answer` meets its contract: the first fault or refusal stands. Assumes nothing.
 use Rattle.checks.proofs.Steps.{stands}
 use borrow.Author.Needs.{needs}
 use Rattle.stages.proofs.descriptor.descriptor_answer.Statement.{statement}

@@ -1,4 +1,4 @@
--- `access::has` meets its contract: the right of the level's rights. Assumes nothing.
+-- `level::has` meets its contract: the right of the level's rights. Assumes nothing.
 use borrow.Author.Needs.{needs}
 use Rattle.stages.proofs.level.has.Statement.{statement}
 use Rattle.stages.proofs.level.has.Tie as tie

@@ -1,4 +1,4 @@
--- `stages::level_in` meets its contract: by the level. Assumes nothing.
+-- `level::level_in` meets its contract: by the level. Assumes nothing.
 use borrow.Author.Needs.{needs}
 use Rattle.stages.proofs.level.level_in.Statement.{statement}
 use Rattle.stages.proofs.level.level_in.Tie as tie
