@@ -1,0 +1,27 @@
+-- `put_number` puts a number and a word after it. Assumes nothing.
+use native.Mathlib.Omega.{arith}
+use Rattle.text.proofs.Digits.{decimal-20}
+use Rattle.text.proofs.Puts.{then}
+use borrow.Author.Needs.{needs}
+use Rattle.text.proofs.put.put_number.Statement.{statement}
+use Rattle.text.proofs.put.put_number.Tie as tie
+
+put-decimal-requires : tie.Need-put-decimal-requires
+put-decimal-requires c κs = search needs
+
+put-word-requires : tie.Need-put-word-requires
+put-word-requires c κs =
+    let d = c .before .before .before .put-decimal in
+    omega (arith, d .ensures .next, decimal-20 _ (c .before .before .before .before .before .before .before .fits .n .fits), d .kept .0, c .before .before .before .before .before .before .before .pre)
+
+same-length : tie.Need-same-length
+same-length c = search needs
+
+returns : tie.Need-returns
+returns c = (
+  then _ _ _ _ _ _ _ _ (let p = c .before .before .before .before .before .before .before .before .before .before .pre in omega arith) (c .before .before .before .before .before .before .put-decimal .ensures) (c .before .before .put-word .ensures),
+  omega (arith, c .before .before .before .before .before .before .put-decimal .ensures .next, c .before .before .put-word .ensures .next),
+)
+
+pub put-number-spec : {M : Type 1} → statement M
+put-number-spec = tie.close (tie.spec put-decimal-requires put-word-requires same-length returns)

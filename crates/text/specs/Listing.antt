@@ -1,0 +1,81 @@
+-- Document 01, 'File, program, host': the lines that the program prints for a file. Assumes nothing.
+use Prim.Native.Nat.{ℕ, zero, suc}
+use mathlib.Core.Bool.{cond, _&&_}
+use mathlib.Core.List.{List, [], _++_}
+use lib.Bits.{bitAnd}
+use lib.Dec.{leb, ltb}
+use lib.ListN.{length, getD, replicate}
+use Rattle.mapfile.specs.MapFile.{Leaves, leaves, illFormed, value, fileOf}
+use Rattle.records.specs.Bytes.{over}
+use Rattle.judgement.specs.List.{leafAt, listOf}
+use Rattle.judgement.specs.declared.Listed.{Listed}
+use Rattle.judgement.specs.declared.Listed.the-variants as listed
+use Rattle.plan.specs.Plan.{planOf}
+use Rattle.plan.specs.declared.Plan.{Plan}
+use Rattle.plan.specs.declared.Plan.the-variants as plan
+use Rattle.text.specs.Words.{ascii, decimal, hex16}
+
+-- a number and what follows it
+abbrev pub numberThen : ℕ → List ℕ → List ℕ
+numberThen n w = decimal n ++ w
+
+-- `refused 13` or `refused 6 leaf 1`: refusals 5 to 10 show the leaf
+unfoldable pub refusalLine : ℕ → ℕ → List ℕ
+refusalLine k i =
+    ascii "refused "
+    ++ cond (leb 5 k && leb k 10) (numberThen k (ascii " leaf ") ++ numberThen i (ascii "\n")) (numberThen k (ascii "\n"))
+
+-- per leaf index, rights, forbidden and their common bits in decimal
+unfoldable pub leafLine : ℕ → ℕ → ℕ → List ℕ
+leafLine i r f =
+    numberThen i (ascii " ")
+    ++ (numberThen r (ascii " ") ++ (numberThen f (ascii " ") ++ numberThen (bitAnd r f) (ascii "\n")))
+
+-- the line of leaf i, whose rights the list wrote
+abbrev pub lineAt : List ℕ → List ℕ → ℕ → List ℕ
+lineAt rs ls i = leafLine i (getD rs i 0) (leafAt ls i .forbidden)
+
+-- m lines from leaf i on
+unfoldable pub linesFrom : (ℕ → List ℕ) → ℕ → ℕ → List ℕ
+linesFrom f zero i = []
+linesFrom f (suc m) i = f i ++ linesFrom f m (suc i)
+
+-- a level's register as 16 hex digits, or its refusal
+abbrev pub planLine : Plan → List ℕ
+planLine (plan.Register r) = hex16 r ++ ascii "\n"
+planLine (plan.Refused k i) = refusalLine k i
+
+-- the leaf count, a line for each leaf, then each level's register: for a setup, n leaves and the rights that were written
+unfoldable pub mapLines : List ℕ → List ℕ → ℕ → List ℕ → List ℕ
+mapLines b ls n rs =
+    ascii "leaves "
+    ++ (numberThen n (ascii "\n")
+    ++ (linesFrom (lineAt rs ls) n 0
+    ++ (ascii "privileged " ++ (planLine (planOf b 0 ls) ++ (ascii "unprivileged " ++ planLine (planOf b 1 ls))))))
+
+-- a refusal of the list prints one line instead
+abbrev pub listLines : List ℕ → List ℕ → ℕ → Listed → List ℕ → List ℕ
+listLines b ls n (listed.Done m) rs = mapLines b ls n rs
+listLines b ls n (listed.Refused k i) rs = refusalLine k i
+
+-- the list, for which a buffer of 2,048 zeros is lent
+unfoldable pub mapText : List ℕ → List ℕ → ℕ → List ℕ
+mapText b ls n = listLines b ls n (listOf b ls (replicate 2048 0) .answer) (listOf b ls (replicate 2048 0) .out)
+
+-- a file refusal prints `refused 13`; else the setup is the first field, and the count that of the leaf fields
+abbrev pub fileText : List ℕ → Leaves → List ℕ
+fileText s illFormed = refusalLine 13 0
+fileText s (leaves n ls) = mapText (value 52 s) ls n
+
+unfoldable pub textOf : List ℕ → List ℕ
+textOf s = fileText s (fileOf s)
+
+-- what writing the text of file s to a lent buffer o answers, the number of bytes written, and what the buffer holds then: with fewer than
+-- 36,864 bytes, which every text fits in, 0 and no byte changed
+pub record Result : Type 0 where
+  pub count : ℕ
+  pub out : List ℕ
+
+unfoldable pub written : List ℕ → List ℕ → Result
+written s o =
+    cond (ltb (length o) 36864) (record { count = 0; out = o }) (record { count = length (textOf s); out = over (textOf s) o })

@@ -1,0 +1,95 @@
+// The program's text (document 01, 'File, program, host'): the lines for a map file, made in a lent buffer. `write_listing` is the one public
+// function and has no `requires`.
+ghost use mathlib.Core.Path.{_≡_};
+ghost use Prim.Native.Nat.{_+_, _*_, _≤_};
+ghost use lib.ListN.{length};
+ghost use Rattle.io.specs.Counts.{Counts};
+ghost use Rattle.plan.specs.Plan.{planOf};
+ghost use Rattle.text.specs.Listing.{lineAt, linesFrom, planLine, mapLines, mapText, written};
+ghost use Rattle.text.specs.Put.{Put};
+use crate::put::put_hex;
+use crate::put::put_leaf;
+use crate::put::put_number;
+use crate::put::put_refusal;
+use crate::put::put_word;
+use judgement::Listed;
+use mapfile::FileRead;
+use plan::Plan;
+
+mod put;
+
+// A line for each of the first `n` leaves.
+fn put_leaves(out: &mut [u8], at: usize, rights: &[u8], leaves: &[u8], n: usize) -> usize
+    requires { ⌜ (n ≤ 2048) × (n ≤ length (now rights)) × (n * 18 ≤ length (now leaves)) × (at + n * 17 + 96 ≤ length (now out)) ⌝ }
+    ensures text { λ r. ⌜ Put (now (out .entry)) at (linesFrom (lineAt (now (rights .entry)) (now (leaves .entry))) n 0) (now (out .exit)) r ⌝ }
+    ensures next { λ r. ⌜ r ≤ at + n * 17 ⌝ }
+{
+    let mut end = at;
+    let mut i: usize = 0;
+    while i < n {
+        end = put_leaf(out, end, i, rights[i], leaves[i * 18 + 17]);
+        i += 1;
+    }
+    end
+}
+
+// The register of a level, or its refusal.
+fn put_plan(out: &mut [u8], at: usize, setup: &[u8], level: u64, leaves: &[u8]) -> usize
+    requires { ⌜ at + 64 ≤ length (now out) ⌝ }
+    ensures text { λ r. ⌜ Put (now (out .entry)) at (planLine (planOf (now (setup .entry)) level (now (leaves .entry)))) (now (out .exit)) r ⌝ }
+    ensures next { λ r. ⌜ r ≤ at + 64 ⌝ }
+{
+    match planner::plan_level(setup, level, leaves) {
+        Plan::Register(r) => {
+            let end = put_hex(out, at, r);
+            put_word(out, end, b"\n")
+        }
+        Plan::Refused { number, leaf } => put_refusal(out, at, number, leaf),
+    }
+}
+
+// The lines of a map whose list is not refused.
+fn put_map(out: &mut [u8], setup: &[u8], leaves: &[u8], n: usize, rights: &[u8]) -> usize
+    requires { ⌜ (n ≤ 2048) × (n ≤ length (now rights)) × (n * 18 ≤ length (now leaves)) × (36864 ≤ length (now out)) ⌝ }
+    ensures { λ r. ⌜ Put (now (out .entry)) 0 (mapLines (now (setup .entry)) (now (leaves .entry)) n (now (rights .entry))) (now (out .exit)) r ⌝ }
+{
+    let a = put_word(out, 0, b"leaves ");
+    let b = put_number(out, a, n as u64, b"\n");
+    let c = put_leaves(out, b, rights, leaves, n);
+    let d = put_word(out, c, b"privileged ");
+    let e = put_plan(out, d, setup, 0, leaves);
+    let f = put_word(out, e, b"unprivileged ");
+    put_plan(out, f, setup, 1, leaves)
+}
+
+// The text of a map: its lines, or the refusal of its list.
+fn put_list(out: &mut [u8], setup: &[u8], leaves: &[u8], n: usize) -> usize
+    requires { ⌜ (n ≤ 2048) × (n * 18 ≤ length (now leaves)) × (36864 ≤ length (now out)) ⌝ }
+    ensures { λ r. ⌜ Put (now (out .entry)) 0 (mapText (now (setup .entry)) (now (leaves .entry)) n) (now (out .exit)) r ⌝ }
+{
+    let mut rights = [0u8; 2048];
+    match lists::list_rights(setup, leaves, &mut rights) {
+        Listed::Done(_) => put_map(out, setup, leaves, n, &rights),
+        Listed::Refused { number, leaf } => put_refusal(out, 0, number, leaf),
+    }
+}
+
+// Writes the text of a file to the start of `out` and answers its length; with fewer than 36,864 bytes it answers 0 and writes nothing.
+pub fn write_listing(file: &[u8], out: &mut [u8]) -> usize
+    ensures count { λ r. ⌜ r ≡ written (now (file .entry)) (now (out .entry)) .count ⌝ }
+    ensures text { λ _. ⌜ now (out .exit) ≡ written (now (file .entry)) (now (out .entry)) .out ⌝ }
+    ensures within { λ r. ⌜ Counts r (now (out .exit)) ⌝ }
+{
+    if out.len() < 36864 {
+        return 0;
+    }
+    let mut setup = [0u8; 52];
+    let mut leaves = [0u8; 36864];
+    match mapfile::read_file(file, &mut setup, &mut leaves) {
+        FileRead::Map(n) => {
+            let end = n * 18;
+            put_list(out, &setup, &leaves[..end], n)
+        }
+        FileRead::Refused(k) => put_refusal(out, 0, k, 0),
+    }
+}

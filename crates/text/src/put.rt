@@ -1,0 +1,79 @@
+// Words and numbers put into a buffer from an index on. Each answers the index after what it put.
+ghost use mathlib.Core.Path.{_≡_};
+ghost use Prim.Native.Nat.{_+_, _*_, _≤_, _<_};
+ghost use lib.ListN.{length};
+ghost use Rattle.text.specs.Words.{decimal, hex16};
+ghost use Rattle.text.specs.Listing.{numberThen, refusalLine, leafLine};
+ghost use Rattle.text.specs.Put.{Put};
+
+pub(crate) fn put_word(out: &mut [u8], at: usize, word: &[u8]) -> usize
+    requires { ⌜ at + length (now word) ≤ length (now out) ⌝ }
+    ensures { λ r. ⌜ Put (now (out .entry)) at (now (word .entry)) (now (out .exit)) r ⌝ }
+{
+    let end = at + word.len();
+    bytes::copy(word, &mut out[at..end]);
+    end
+}
+
+// A number in decimal.
+pub(crate) fn put_decimal(out: &mut [u8], at: usize, n: u64) -> usize
+    requires { ⌜ at + 20 ≤ length (now out) ⌝ }
+    ensures { λ r. ⌜ Put (now (out .entry)) at (decimal n) (now (out .exit)) r ⌝ }
+{
+    let mut digits = [0u8; 20];
+    let k = io::decimal(n, &mut digits);
+    put_word(out, at, &digits[..k])
+}
+
+// A register as 16 hex digits.
+pub(crate) fn put_hex(out: &mut [u8], at: usize, n: u64) -> usize
+    requires { ⌜ at + 16 ≤ length (now out) ⌝ }
+    ensures { λ r. ⌜ Put (now (out .entry)) at (hex16 n) (now (out .exit)) r ⌝ }
+{
+    let mut digits = [0u8; 16];
+    let k = io::hex(n, 16, &mut digits);
+    put_word(out, at, &digits[..k])
+}
+
+// A number in decimal, and a word after it.
+pub(crate) fn put_number(out: &mut [u8], at: usize, n: u64, word: &[u8]) -> usize
+    requires { ⌜ at + 20 + length (now word) ≤ length (now out) ⌝ }
+    ensures text { λ r. ⌜ Put (now (out .entry)) at (numberThen n (now (word .entry))) (now (out .exit)) r ⌝ }
+    ensures next { λ r. ⌜ r ≡ at + length (decimal n) + length (now (word .entry)) ⌝ }
+{
+    let end = put_decimal(out, at, n);
+    put_word(out, end, word)
+}
+
+fn wide(x: u8) -> u64
+    ensures { λ r. ⌜ r ≡ x ⌝ }
+{
+    x as u64
+}
+
+// The line of a refusal.
+pub(crate) fn put_refusal(out: &mut [u8], at: usize, number: u8, leaf: usize) -> usize
+    requires { ⌜ at + 64 ≤ length (now out) ⌝ }
+    ensures text { λ r. ⌜ Put (now (out .entry)) at (refusalLine number leaf) (now (out .exit)) r ⌝ }
+    ensures next { λ r. ⌜ r ≤ at + 64 ⌝ }
+{
+    let a = put_word(out, at, b"refused ");
+    if (5 <= number) & (number <= 10) {
+        let b = put_number(out, a, wide(number), b" leaf ");
+        put_number(out, b, leaf as u64, b"\n")
+    } else {
+        put_number(out, a, wide(number), b"\n")
+    }
+}
+
+// The line of a leaf: index, rights, forbidden and their common bits.
+pub(crate) fn put_leaf(out: &mut [u8], at: usize, i: usize, r: u8, f: u8) -> usize
+    requires { ⌜ (at + 96 ≤ length (now out)) × (i < 2048) ⌝ }
+    ensures text { λ e. ⌜ Put (now (out .entry)) at (leafLine i r f) (now (out .exit)) e ⌝ }
+    ensures next { λ e. ⌜ e ≤ at + 17 ⌝ }
+{
+    let a = put_number(out, at, i as u64, b" ");
+    let b = put_number(out, a, wide(r), b" ");
+    let c = put_number(out, b, wide(f), b" ");
+    put_number(out, c, wide(r & f), b"\n")
+}

@@ -1,0 +1,223 @@
+//! The library's functions with their answers as it packs them, and the unpacking.
+//!
+//! Bits that the packing keeps for later (47:40 of the judge for a cause, 48 and 49 for two marks
+//! of memory) are not read here.
+
+use crate::{Fault, Judgement, Kind, Memory, Number, Refusal, Shareability, Stage};
+
+extern "C" {
+    fn sonsiplex_judge(
+        setup: *const u8,
+        setup_len: usize,
+        leaf: *const u8,
+        leaf_len: usize,
+        access: u64,
+    ) -> u64;
+
+    fn sonsiplex_list(
+        setup: *const u8,
+        setup_len: usize,
+        leaves: *const u8,
+        leaves_len: usize,
+        out: *mut u8,
+        out_len: usize,
+    ) -> u64;
+
+    fn sonsiplex_plan(
+        setup: *const u8,
+        setup_len: usize,
+        level: u64,
+        leaves: *const u8,
+        leaves_len: usize,
+    ) -> u64;
+}
+
+/// The judge's packed answer.
+pub fn judge(setup: &[u8], leaf: &[u8], access: u64) -> u64 {
+    // SAFETY: each pointer is a slice's, so it is not null and is valid for its length. The
+    // function writes to neither.
+    unsafe {
+        sonsiplex_judge(
+            setup.as_ptr(),
+            setup.len(),
+            leaf.as_ptr(),
+            leaf.len(),
+            access,
+        )
+    }
+}
+
+/// The list's packed answer.
+pub fn list(setup: &[u8], leaves: &[u8], out: &mut [u8]) -> u64 {
+    // SAFETY: each pointer is a slice's, so it is not null and is valid for its length. `out` is
+    // borrowed alone, so it overlaps neither input.
+    unsafe {
+        sonsiplex_list(
+            setup.as_ptr(),
+            setup.len(),
+            leaves.as_ptr(),
+            leaves.len(),
+            out.as_mut_ptr(),
+            out.len(),
+        )
+    }
+}
+
+/// The planner's packed answer.
+pub fn plan(setup: &[u8], level: u64, leaves: &[u8]) -> u64 {
+    // SAFETY: each pointer is a slice's, so it is not null and is valid for its length. The
+    // function writes to neither.
+    unsafe {
+        sonsiplex_plan(
+            setup.as_ptr(),
+            setup.len(),
+            level,
+            leaves.as_ptr(),
+            leaves.len(),
+        )
+    }
+}
+
+/// The judge's answer. Bits 7:0 number, 15:8 stage, 23:16 kind, 31:24 byte, 39:32 SH.
+pub fn unpack_judge(word: u64) -> Result<Judgement, Refusal> {
+    let [number, stage, kind, byte, shareability, ..] = word.to_le_bytes();
+    if number != 0 {
+        return Err(Refusal {
+            number: known_number(word),
+            leaf: None,
+        });
+    }
+    if stage != 0 {
+        return Ok(Judgement::Fault(Fault {
+            stage: unpack_stage(stage).unwrap_or_else(|| outside(word)),
+            kind: unpack_kind(kind).unwrap_or_else(|| outside(word)),
+        }));
+    }
+    Ok(Judgement::Allowed(Memory {
+        byte,
+        shareability: unpack_shareability(shareability).unwrap_or_else(|| outside(word)),
+    }))
+}
+
+/// The list's answer. Bits 7:0 number, 31:16 leaf, 47:32 leaf count.
+pub fn unpack_list(word: u64) -> Result<usize, Refusal> {
+    refusal_of_list(word)?;
+    Ok((word >> 32 & 0xFFFF) as usize)
+}
+
+/// The planner's answer. Bits 7:0 number, 31:16 leaf, 63:32 slots 0 to 7 of the register.
+pub fn unpack_plan(word: u64) -> Result<u64, Refusal> {
+    refusal_of_list(word)?;
+    Ok(word >> 32)
+}
+
+fn refusal_of_list(word: u64) -> Result<(), Refusal> {
+    if word & 0xFF == 0 {
+        return Ok(());
+    }
+    let number = known_number(word);
+    let leaf = (word >> 16) as u16;
+    Err(Refusal {
+        number,
+        leaf: number.is_of_a_leaf().then_some(leaf),
+    })
+}
+
+fn known_number(word: u64) -> Number {
+    Number::new(word as u8).unwrap_or_else(|| outside(word))
+}
+
+fn unpack_stage(value: u8) -> Option<Stage> {
+    match value {
+        1 => Some(Stage::One),
+        2 => Some(Stage::Two),
+        _ => None,
+    }
+}
+
+fn unpack_kind(value: u8) -> Option<Kind> {
+    match value {
+        1 => Some(Kind::Translation),
+        2 => Some(Kind::AccessFlag),
+        3 => Some(Kind::Permission),
+        4 => Some(Kind::Overlay),
+        _ => None,
+    }
+}
+
+fn unpack_shareability(value: u8) -> Option<Shareability> {
+    match value {
+        0 => Some(Shareability::None),
+        2 => Some(Shareability::Outer),
+        3 => Some(Shareability::Inner),
+        _ => None,
+    }
+}
+
+/// The library is proved to answer within the packing, so only another archive reaches this.
+#[cold]
+fn outside(word: u64) -> ! {
+    panic!("answer {word:#018x} is outside the packing: libsonsiplex.a does not fit this crate")
+}
+
+#[cfg(test)]
+mod tests {
+    use super::*;
+
+    #[test]
+    fn judge_words() {
+        let refused = unpack_judge(6).unwrap_err();
+        assert_eq!((refused.number, refused.leaf), (Number::ReservedCode, None));
+        let fault = Fault {
+            stage: Stage::Two,
+            kind: Kind::Permission,
+        };
+        assert_eq!(unpack_judge(0x03_02_00), Ok(Judgement::Fault(fault)));
+        let memory = Memory {
+            byte: 0x4F,
+            shareability: Shareability::Inner,
+        };
+        let allowed = Ok(Judgement::Allowed(memory));
+        assert_eq!(unpack_judge(0x0003_4F00_0000), allowed);
+        let kept = 0x0003_FF00_0000_0000;
+        assert_eq!(unpack_judge(kept | 0x0003_4F00_0000), allowed);
+    }
+
+    #[test]
+    fn every_number_stage_kind_and_shareability() {
+        for value in 1..=13 {
+            assert_eq!(unpack_judge(value).unwrap_err().number as u64, value);
+        }
+        for (stage, kind) in (1..=2).flat_map(|stage| (1..=4).map(move |kind| (stage, kind))) {
+            let Ok(Judgement::Fault(fault)) = unpack_judge(stage << 8 | kind << 16) else {
+                panic!("stage {stage} kind {kind} is a fault");
+            };
+            assert_eq!((fault.stage as u64, fault.kind as u64), (stage, kind));
+        }
+        for value in [0, 2, 3] {
+            let Ok(Judgement::Allowed(memory)) = unpack_judge(value << 32) else {
+                panic!("SH {value} is allowed");
+            };
+            assert_eq!(memory.shareability as u64, value);
+        }
+    }
+
+    #[test]
+    fn list_and_plan_words() {
+        assert_eq!(unpack_list(0x0800_0000_0000), Ok(2048));
+        assert_eq!(unpack_plan(0x7777_7773_0000_0000), Ok(0x7777_7773));
+        let refused = unpack_plan(0x0001_000A).unwrap_err();
+        assert_eq!(
+            (refused.number, refused.leaf),
+            (Number::NoOverlaySeparates, Some(1))
+        );
+        let refused = unpack_list(11).unwrap_err();
+        assert_eq!((refused.number, refused.leaf), (Number::ListLength, None));
+    }
+
+    #[test]
+    #[should_panic(expected = "outside the packing")]
+    fn a_number_outside_the_packing() {
+        let _ = unpack_judge(200);
+    }
+}
