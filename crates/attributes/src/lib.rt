@@ -1,47 +1,25 @@
-// The attribute layer: the memory type and shareability of an access, and the refusals 8 and 9 (document 01, 'Memory type and
-// shareability').
+// The memory type and shareability of an access, and the refusals 8 and 9: the order of the steps (document 01, 'Memory type and
+// shareability'). Part of the attribute layer.
 //
 // No public function has a `requires`: the fields of a record are read within their widths. The descriptor of a stage that is off is
 // ignored. Permissions are not read.
 ghost use mathlib.Core.Path.{_≡_};
-ghost use Rattle.attributes.specs.Order.{attributesOf, checkOf};
-
-mod combine;
-mod mair;
-mod shareability;
-mod stage2;
-mod step;
-
-use crate::combine::result_byte;
-use crate::mair::mair_byte;
-use crate::mair::stage1_code;
-use crate::mair::valid_byte;
-use crate::shareability::reserved_sh;
-use crate::shareability::shareability_code;
-use crate::stage2::memattr_code;
-use crate::stage2::reserved_code;
-use crate::step::Reached;
-use records::leaf::Stage1;
-use records::leaf::Stage2;
+ghost use Rattle.memory.specs.Order.{attributesOf, checkOf};
+use codes::mair::mair_byte;
+use codes::mair::stage1_code;
+use codes::mair::valid_byte;
+use codes::stage2::memattr_code;
+use codes::stage2::reserved_code;
+use combine::result_byte;
+use descriptors::Stage1;
+use descriptors::Stage2;
+use memory::Attributes;
+use memory::Check;
+use memory::Memory;
+use memory::step::Reached;
 use records::setup::Setup;
-
-// The MAIR byte and SH of an allowed access.
-pub struct Memory {
-    pub byte: u8,
-    pub sh: u8,
-}
-
-// The byte and SH that both stages give, or a refusal's number.
-pub enum Attributes {
-    Combined(Memory),
-    Refused(u8),
-}
-
-// No refusal, or its number.
-pub enum Check {
-    Passes,
-    Refused(u8),
-}
+use shareability::reserved_sh;
+use shareability::shareability_code;
 
 // The attribute steps of one access: 8 at stage 1, 8 at stage 2, 9, and then the byte and SH. `fetch` is whether it executes.
 pub fn access_attributes(s: Setup, one: Stage1, two: Stage2, fetch: bool) -> Attributes

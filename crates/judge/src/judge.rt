@@ -1,22 +1,14 @@
 // One access of a leaf.
 ghost use mathlib.Core.Path.{_≡_};
-ghost use Rattle.judge.specs.Demands.{JudgeDemands};
-ghost use Rattle.judge.specs.Judge.{stopped, combined, judged, judgeOf};
-use attributes::Attributes;
-use attributes::Memory;
+ghost use Rattle.judgement.specs.Demands.{JudgeDemands};
+ghost use Rattle.judgement.specs.Judge.{stopped, combined, judged, judgeOf};
+use checks::answer::Answer;
+use judgement::Judgement;
+use memory::Attributes;
 use records::leaf::Leaf;
 use records::leaf::LeafRead;
 use records::setup::Setup;
 use records::setup::SetupRead;
-use rights::answer::Answer;
-use rights::answer::Fault;
-
-// Allowed with byte and SH, a fault with stage and kind, or a refusal's number.
-pub enum Judgement {
-    Allowed(Memory),
-    Fault(Fault),
-    Refused(u8),
-}
 
 // The fault or refusal of an access that is not permitted.
 fn stopped(a: Answer) -> Judgement
@@ -47,8 +39,8 @@ fn judge_read(s: Setup, l: Leaf, n: u64) -> Judgement
     let Answer::Permitted = answer else {
         return stopped(answer);
     };
-    let one = records::leaf::read_stage1(l.stage1);
-    let two = records::leaf::read_stage2(l.stage2);
+    let one = descriptors::read_stage1(l.stage1);
+    let two = descriptors::read_stage2(l.stage2);
     combined(attributes::access_attributes(s, one, two, (n == 2) | (n == 5)))
 }
 

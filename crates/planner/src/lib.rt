@@ -1,33 +1,26 @@
 // The planner layer: the overlay register of a level that stops every forbidden access of that level on a list of leaves, with each
 // slot bit on that may be on (document 01, 'The planner'; refusals 1 to 7 and 10 to 13).
 //
-// `plan_level` is the one public function and has no `requires`. Of the rights layer it uses the contracts of the checks and of
-// `range::level_range`, and the laws of its proofs/Ranges and proofs/Levels.
+// `plan_level` is the one public function and has no `requires`. Of the rights layer the planner uses the contracts of `checks` and of
+// `range::level_range`, and the laws of `levels`: its proofs/Ranges and proofs/Levels.
 ghost use mathlib.Core.Path.{_≡_};
 ghost use Prim.Native.Nat.{_/_, _%_, _≤_};
 ghost use lib.ListN.{length};
-ghost use Rattle.planner.specs.Plan.{planLeaves, planOf, valuesOf};
-ghost use Rattle.planner.specs.Demand3.{Demanded};
-use crate::leaf::LeafPlan;
-use crate::leaf::plan_leaf;
-use crate::leaf::refusal;
+ghost use Rattle.plan.specs.Plan.{planLeaves, planOf, valuesOf};
+ghost use Rattle.plan.specs.Demand3.{Demanded};
 use crate::masks::cut_mask;
 use crate::masks::first_of;
 use crate::masks::pack;
-use crate::start::Start;
-use crate::start::begin;
+use cuts::plan_leaf;
+use cuts::refusal;
+use plan::LeafPlan;
+use plan::Plan;
+use plan::Start;
 use records::access::Level;
 use records::setup::Setup;
+use starts::begin;
 
-mod leaf;
 mod masks;
-mod start;
-
-// A register, or a refusal's number and the leaf's index (0 if none is at fault).
-pub enum Plan {
-    Register(u64),
-    Refused { number: u8, leaf: usize },
-}
 
 // One pass over the list: each leaf's 5, 6 or 7, then 10, then the register.
 fn plan_leaves(s: Setup, l: Level, leaves: &[u8]) -> Plan

@@ -2,21 +2,13 @@
 ghost use mathlib.Core.Path.{_≡_};
 ghost use Prim.Native.Nat.{ℕ, _<_};
 ghost use lib.ListN.{getD};
-ghost use Rattle.rights.specs.Overlay.{three};
-ghost use Rattle.planner.specs.Register.{slotNumber, cutMask, packFrom};
-ghost use Rattle.planner.specs.Plan.{firstOf};
+ghost use Rattle.plan.specs.Register.{cutMask, packFrom};
+ghost use Rattle.plan.specs.Plan.{firstOf};
 
 fn wide(x: u8) -> u64
     ensures { λ r. ⌜ r ≡ x ⌝ }
 {
     x as u64
-}
-
-// The slot with these bits.
-pub(crate) fn slot_number(read: bool, write: bool, execute: bool) -> u8
-    ensures { λ r. ⌜ r ≡ slotNumber (three read write execute) ⌝ }
-{
-    (read as u8) + 2 * (execute as u8) + 4 * (write as u8)
 }
 
 // The mask without the bits taken.

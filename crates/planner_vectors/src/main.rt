@@ -2,7 +2,7 @@
 // output is `stdout`.
 ghost use Prim.Native.Nat.{_≤_};
 use libc::STDOUT_FILENO;
-use planner::Plan;
+use plan::Plan;
 
 fn text(t: &[u8]) {
     io::write_all(STDOUT_FILENO, t);

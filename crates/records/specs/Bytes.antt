@@ -1,10 +1,8 @@
--- Document 01, 'Setup and leaf records': numbers are little-endian. Bytes of a list, and bits of a number.
--- Cited by the contracts of every layer. Assumes nothing.
-use Prim.Native.Nat.{ℕ, _+_, _*_, _/_, _%_, _^_}
-use mathlib.Core.List.{List, [], _∷_}
-use mathlib.Core.Bool.{Bool}
-use lib.Dec.{eqb}
-use lib.ListN.{getD}
+-- Document 01, 'Setup and leaf records': numbers are little-endian. Bytes of a list. Cited by the contracts of every layer. Assumes
+-- nothing.
+use Prim.Native.Nat.{ℕ, _+_, _*_, _^_}
+use mathlib.Core.List.{List, [], _∷_, _++_}
+use lib.ListN.{length, drop, getD}
 
 -- the byte of s at index k, or 0 past the end
 abbrev pub byteAt : List ℕ → ℕ → ℕ
@@ -27,14 +25,6 @@ le32 s k = little (byteAt s k ∷ byteAt s (k + 1) ∷ byteAt s (k + 2) ∷ byte
 unfoldable pub le64 : List ℕ → ℕ → ℕ
 le64 s k = le32 s k + 2 ^ 32 * le32 s (k + 4)
 
--- bit k of x
-abbrev pub bit : ℕ → ℕ → Bool
-bit x k = eqb (x / 2 ^ k % 2) 1
-
--- the number made of the n bits of x from bit k on
-abbrev pub field : ℕ → ℕ → ℕ → ℕ
-field x k n = x / 2 ^ k % 2 ^ n
-
--- the four bits at place i of a 64-bit register of sixteen places
-abbrev pub nibble : ℕ → ℕ → ℕ
-nibble r i = r / 2 ^ (4 * i) % 16
+-- the bytes x at the start of a lent buffer, later bytes unchanged
+abbrev pub over : List ℕ → List ℕ → List ℕ
+over x a = x ++ drop (length x) a

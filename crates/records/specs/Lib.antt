@@ -2,5 +2,3 @@ pub mod Bytes
 pub mod Setup
 pub mod Leaf
 pub mod Access
-pub mod MapFile
-pub mod Fields

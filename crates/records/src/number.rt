@@ -2,13 +2,7 @@
 ghost use mathlib.Core.Path.{_≡_};
 ghost use Prim.Native.Nat.{_+_, _*_, _<_, _≤_};
 ghost use lib.ListN.{length};
-ghost use Rattle.records.specs.Bytes.{le16, le32, le64};
-
-pub(crate) fn wide(x: u8) -> u64
-    ensures { λ r. ⌜ r ≡ x ⌝ }
-{
-    x as u64
-}
+ghost use Rattle.records.specs.Bytes.{le32, le64};
 
 fn two(lo: u8, hi: u8) -> u64
     ensures { λ r. ⌜ (r ≡ lo + 256 * hi) × (r < 65536) ⌝ }
@@ -28,14 +22,6 @@ fn eight(lo: u64, hi: u64) -> u64
     ensures { λ r. ⌜ r ≡ lo + 4294967296 * hi ⌝ }
 {
     lo + 4294967296 * hi
-}
-
-// The 16-bit number at index `at`.
-pub(crate) fn short(b: &[u8], at: usize) -> u64
-    requires { ⌜ at + 2 ≤ length (now b) ⌝ }
-    ensures { λ r. ⌜ r ≡ le16 (now (b .entry)) at ⌝ }
-{
-    two(b[at], b[at + 1])
 }
 
 // The 32-bit number at index `at`.

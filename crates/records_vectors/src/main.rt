@@ -1,53 +1,60 @@
-// Decodes the example of document 01 and the edges of the record layer, and prints what was found. Its expected output is `stdout`.
+// Decodes the example of document 01 and the edges of the record layer, and prints what was found. Its cases are in `stdin`, one to a line,
+// in hexadecimal, and its expected output is `stdout`. A case begins with its kind:
+// 0 the setup in the example's bytes from one index up to another;
+// 1 the leaf there, with a PIR and a POR;
+// 2 a stage 1 descriptor, with a PIR and a POR; 3 a stage 2 descriptor; 4 a control word; 5 an access number;
+// 6 the example as a file: its length, the room for leaves, an index and the byte to put there (at index 3 the example has 2B), name;
+// 7 a leaf of 18 equal bytes, with a PIR and a POR.
 ghost use Prim.Native.Nat.{_≤_};
-use libc::STDOUT_FILENO;
-use records::access::Access;
+use libc::STDIN_FILENO;
+use mapfile::FileRead;
+use printing::flags;
+use printing::low;
+use printing::number;
+use printing::print_rest;
+use printing::register;
+use printing::text;
+use printing::word;
 use records::access::AccessRead;
 use records::access::Level;
 use records::access::Right;
-use records::file::FileRead;
-use records::leaf::Leaf;
 use records::leaf::LeafRead;
 use records::setup::Control;
 use records::setup::Setup;
 use records::setup::SetupRead;
 
-fn text(t: &[u8]) {
-    io::write_all(STDOUT_FILENO, t);
-}
-
-fn number(name: &[u8], n: u64) {
-    text(name);
-    io::print_decimal(STDOUT_FILENO, n);
-}
-
-fn register(name: &[u8], n: u64) {
-    text(name);
-    io::print_hex(STDOUT_FILENO, n, 16);
-}
-
-fn flag(name: &[u8], on: bool) {
-    if on {
-        text(name);
-    }
-}
-
 fn print_control(c: Control) {
+    let on = [
+        c.two,
+        c.stage1,
+        c.stage2,
+        c.indirect,
+        c.overlay.privileged,
+        c.overlay.unprivileged,
+        c.wxn,
+        c.pan,
+        c.unlimited,
+        c.fwb,
+        c.dc,
+        c.icacheable,
+        c.aie,
+        c.above,
+    ];
     text(b"control");
-    flag(b" two", c.two);
-    flag(b" stage1", c.stage1);
-    flag(b" stage2", c.stage2);
-    flag(b" indirect", c.indirect);
-    flag(b" overlay-privileged", c.overlay.privileged);
-    flag(b" overlay-unprivileged", c.overlay.unprivileged);
-    flag(b" wxn", c.wxn);
-    flag(b" pan", c.pan);
-    flag(b" unlimited", c.unlimited);
-    flag(b" fwb", c.fwb);
-    flag(b" dc", c.dc);
-    flag(b" icacheable", c.icacheable);
-    flag(b" aie", c.aie);
-    flag(b" above", c.above);
+    flags(
+        b" two stage1 stage2 indirect overlay-privileged overlay-unprivileged wxn pan unlimited fwb dc icacheable aie above",
+        &on,
+    );
+    text(b"\n");
+}
+
+fn print_registers(s: Setup) {
+    register(b"mair ", s.mair);
+    register(b" mair2 ", s.mair2);
+    register(b"\npir ", s.pir.privileged);
+    register(b" ", s.pir.unprivileged);
+    register(b"\npor ", s.por.privileged);
+    register(b" ", s.por.unprivileged);
     text(b"\n");
 }
 
@@ -58,13 +65,7 @@ fn print_setup(b: &[u8]) {
     };
     let c = s.control;
     print_control(c);
-    register(b"mair ", s.mair);
-    register(b" mair2 ", s.mair2);
-    register(b"\npir ", s.pir.privileged);
-    register(b" ", s.pir.unprivileged);
-    register(b"\npor ", s.por.privileged);
-    register(b" ", s.por.unprivileged);
-    text(b"\n");
+    print_registers(s);
 }
 
 fn small(x: u8) -> u64 {
@@ -72,19 +73,22 @@ fn small(x: u8) -> u64 {
 }
 
 fn print_stage1(d: u64, pir: u64, por: u64) {
-    let f = records::leaf::read_stage1(d);
+    let f = descriptors::read_stage1(d);
     let i = f.piindex;
     let o = f.poindex;
+    let on = [
+        f.valid,
+        f.ap1,
+        f.ap2,
+        f.af,
+        f.pxn,
+        f.uxn,
+        f.attrindx3,
+        f.bit7,
+        f.bit51,
+    ];
     text(b"stage1");
-    flag(b" valid", f.valid);
-    flag(b" ap1", f.ap1);
-    flag(b" ap2", f.ap2);
-    flag(b" af", f.af);
-    flag(b" pxn", f.pxn);
-    flag(b" uxn", f.uxn);
-    flag(b" attrindx3", f.attrindx3);
-    flag(b" bit7", f.bit7);
-    flag(b" bit51", f.bit51);
+    flags(b" valid ap1 ap2 af pxn uxn attrindx3 bit7 bit51", &on);
     number(b" attrindx ", small(f.attrindx));
     number(b" sh ", small(f.sh));
     number(b" code ", small(i.code(pir)));
@@ -93,17 +97,21 @@ fn print_stage1(d: u64, pir: u64, por: u64) {
 }
 
 fn print_stage2(d: u64) {
-    let f = records::leaf::read_stage2(d);
+    let f = descriptors::read_stage2(d);
+    let on = [f.valid, f.read, f.write, f.af, f.bit51];
     text(b"stage2");
-    flag(b" valid", f.valid);
-    flag(b" read", f.read);
-    flag(b" write", f.write);
-    flag(b" af", f.af);
-    flag(b" bit51", f.bit51);
+    flags(b" valid read write af bit51", &on);
     number(b" memattr ", small(f.memattr));
     number(b" sh ", small(f.sh));
     number(b" xn ", small(f.xn));
     text(b"\n");
+}
+
+fn print_limits(l: u8) {
+    let t = descriptors::read_limits(l);
+    let on = [t.aptable0, t.aptable1, t.pxntable, t.uxntable];
+    text(b"limits");
+    flags(b" aptable0 aptable1 pxntable uxntable", &on);
 }
 
 fn print_leaf(b: &[u8], pir: u64, por: u64) {
@@ -113,14 +121,24 @@ fn print_leaf(b: &[u8], pir: u64, por: u64) {
     };
     print_stage1(l.stage1, pir, por);
     print_stage2(l.stage2);
-    let t = records::leaf::read_limits(l.limits);
-    text(b"limits");
-    flag(b" aptable0", t.aptable0);
-    flag(b" aptable1", t.aptable1);
-    flag(b" pxntable", t.pxntable);
-    flag(b" uxntable", t.uxntable);
+    print_limits(l.limits);
     number(b" forbidden ", small(l.forbidden));
     text(b"\n");
+}
+
+fn print_level(l: Level) {
+    match l {
+        Level::Privileged => text(b" privileged"),
+        Level::Unprivileged => text(b" unprivileged"),
+    }
+}
+
+fn print_right(r: Right) {
+    match r {
+        Right::Read => text(b" read\n"),
+        Right::Write => text(b" write\n"),
+        Right::Execute => text(b" execute\n"),
+    }
 }
 
 fn print_access(n: u64) {
@@ -130,16 +148,9 @@ fn print_access(n: u64) {
         return;
     };
     let level = a.level;
-    match level {
-        Level::Privileged => text(b" privileged"),
-        Level::Unprivileged => text(b" unprivileged"),
-    }
+    print_level(level);
     let right = a.right;
-    match right {
-        Right::Read => text(b" read\n"),
-        Right::Write => text(b" write\n"),
-        Right::Execute => text(b" execute\n"),
-    }
+    print_right(right);
 }
 
 // How many bytes are not `b`.
@@ -163,17 +174,16 @@ fn print_read(file: &[u8], len: usize, setup: &mut [u8], leaves: &mut [u8], room
     if leaves.len() < room {
         return;
     }
-    match records::file::read_file(&file[..len], setup, &mut leaves[..room]) {
+    match mapfile::read_file(&file[..len], setup, &mut leaves[..room]) {
         FileRead::Map(n) => number(b" map ", n as u64),
         FileRead::Refused(k) => number(b" refused ", small(k)),
     }
 }
 
 // The same with fresh buffers, and prints how many lent bytes changed.
-fn print_file(name: &[u8], file: &[u8], len: usize, room: usize) {
+fn print_file(file: &[u8], len: usize, room: usize) {
     let mut setup = [170u8; 60];
     let mut leaves = [170u8; 36866];
-    text(name);
     print_read(file, len, &mut setup, &mut leaves, room);
     number(b" setup bytes changed ", differ(&setup, 170));
     number(b" leaf bytes changed ", differ(&leaves, 170));
@@ -222,44 +232,14 @@ fn example() -> [u8; 43084] {
     file
 }
 
-// Reads the example's 97 bytes with another byte at index `at`.
-fn print_damaged(name: &[u8], at: usize, b: u8) {
+// Reads the example's first `len` bytes with the byte `b` at index `at`.
+fn print_damaged(len: usize, room: usize, at: usize, b: u8) {
     if 97 <= at {
         return;
     }
     let mut file = example();
     file[at] = b;
-    print_file(name, &file, 97, 36864);
-}
-
-// Lengths of the file and of the lent buffer.
-fn print_lengths(file: &[u8]) {
-    print_file(b"example", file, 97, 36866);
-    print_file(b"no leaf", file, 55, 0);
-    print_file(b"2048 leaves", file, 43063, 36866);
-    print_file(b"2048 leaves, exact room", file, 43063, 36864);
-    print_file(b"2049 leaves", file, 43084, 36866);
-    print_file(b"empty", file, 0, 36866);
-    print_file(b"setup header cut", file, 2, 36866);
-    print_file(b"setup cut", file, 54, 36866);
-    print_file(b"leaf header cut", file, 57, 36866);
-    print_file(b"second leaf cut", file, 96, 36866);
-    print_file(b"trailing byte", file, 98, 36866);
-    print_file(b"room for one leaf", file, 97, 35);
-    print_file(b"2049 leaves, no room", file, 43084, 0);
-}
-
-// Tags and lengths of the fields.
-fn print_fields() {
-    print_damaged(b"leaf first", 0, 2);
-    print_damaged(b"setup of 51 bytes", 1, 51);
-    print_damaged(b"setup of 53 bytes", 1, 53);
-    print_damaged(b"setup of 308 bytes", 2, 1);
-    print_damaged(b"second setup", 55, 1);
-    print_damaged(b"unknown tag", 55, 3);
-    print_damaged(b"unknown tag last", 76, 3);
-    print_damaged(b"leaf of 17 bytes", 77, 17);
-    print_damaged(b"leaf of 274 bytes", 57, 1);
+    print_file(&file, len, room);
 }
 
 // The bytes from index `from` up to, not including, index `to`, or none where they are not all there.
@@ -273,56 +253,56 @@ fn part(s: &[u8], from: usize, to: usize) -> &[u8] {
     &s[from..to]
 }
 
-// Records of the example, and of other lengths.
-fn print_records(file: &[u8]) {
-    print_setup(part(file, 3, 55));
-    print_setup(part(file, 3, 54));
-    print_setup(part(file, 3, 56));
-    print_leaf(part(file, 58, 76), 0x11, 0);
-    print_leaf(part(file, 58, 76), 0x58, 7);
-    print_leaf(part(file, 79, 97), 0x11, 0);
-    print_leaf(part(file, 79, 97), 0x58, 7);
-    print_leaf(part(file, 58, 75), 0, 0);
-    print_leaf(part(file, 58, 77), 0, 0);
+fn print_file_case(t: &[u8], k: usize) {
+    print_rest(t, k, 5);
+    print_damaged(
+        word(t, k, 1) as usize,
+        word(t, k, 2) as usize,
+        word(t, k, 3) as usize,
+        low(word(t, k, 4)),
+    );
 }
 
-// Single bits, with registers whose place i holds i.
-fn print_bits() {
-    let places: u64 = 0xfedcba9876543210;
-    print_stage1(1 << 54, places, places);
-    print_stage1(1 << 53, places, places);
-    print_stage1(1 << 51, places, places);
-    print_stage1(1 << 6, places, places);
-    print_stage1(3 << 7, places, places);
-    print_stage1(9 << 59, places, places);
-    print_stage1(1 << 61, places, places);
-    print_stage1(1 << 62, places, places);
-    print_stage1(0xffffffffffffffff, places, places);
-    print_stage2(1 << 53);
-    print_stage2(1 << 54);
-    print_stage2(0xffffffffffffffff);
-    print_leaf(&[255u8; 18], places, places);
-    print_control(records::setup::read_control(0x1fff));
-    print_control(records::setup::read_control(0x2000));
-    print_control(records::setup::read_control(0x80000000));
+// A case of the example's bytes.
+fn print_part(leaf: bool, t: &[u8], k: usize) {
+    let file = example();
+    let b = part(&file, word(t, k, 1) as usize, word(t, k, 2) as usize);
+    if leaf {
+        print_leaf(b, word(t, k, 3), word(t, k, 4));
+        return;
+    }
+    print_setup(b);
 }
 
-fn print_accesses() {
-    print_access(0);
-    print_access(1);
-    print_access(2);
-    print_access(3);
-    print_access(4);
-    print_access(5);
-    print_access(6);
-    print_access(0x100000000);
+fn print_same(b: u8, pir: u64, por: u64) {
+    print_leaf(&[b; 18], pir, por);
+}
+
+fn print_case(t: &[u8], k: usize) {
+    let x = word(t, k, 1);
+    match word(t, k, 0) {
+        0 => print_part(false, t, k),
+        1 => print_part(true, t, k),
+        2 => print_stage1(x, word(t, k, 2), word(t, k, 3)),
+        3 => print_stage2(x),
+        4 => print_control(records::setup::read_control((x % 0x100000000) as u32)),
+        5 => print_access(x),
+        6 => print_file_case(t, k),
+        _ => print_same(low(x), word(t, k, 2), word(t, k, 3)),
+    }
+}
+
+fn print_cases(t: &[u8]) {
+    let n = printing::lines(t);
+    let mut i: usize = 0;
+    while i < n {
+        print_case(t, i);
+        i += 1;
+    }
 }
 
 fn main() {
-    let file = example();
-    print_records(&file);
-    print_lengths(&file);
-    print_fields();
-    print_bits();
-    print_accesses();
+    let mut table = io::large_buffer();
+    let n = io::read_full(STDIN_FILENO, &mut table);
+    print_cases(&table[..n]);
 }

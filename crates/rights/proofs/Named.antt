@@ -6,33 +6,34 @@ use Prim.Native.Nat.{ℕ, _≤_}
 use native.Mathlib.Omega.{arith}
 use lib.Dec.{leb, ltb}
 use Rattle.records.specs.Access.{accessAt}
-use Rattle.records.specs.Leaf.{codeAt, slotAt, stage1Of, stage2Of, limitsOf}
+use Rattle.descriptors.specs.Descriptor.{codeAt, slotAt, stage1Of, stage2Of, limitsOf}
 use Rattle.records.specs.declared.access.Access.{Access}
-use Rattle.records.specs.declared.index.PIIndex.{PIIndex}
+use Rattle.descriptors.specs.declared.index.PIIndex.{PIIndex}
 use Rattle.records.specs.declared.access.Right.{Right}
 use Rattle.records.specs.declared.leaf.Leaf.{Leaf}
-use Rattle.records.specs.declared.leaf.Limits.{Limits}
-use Rattle.records.specs.declared.leaf.Stage1.{Stage1}
-use Rattle.records.specs.declared.leaf.Stage2.{Stage2}
+use Rattle.descriptors.specs.declared.Limits.{Limits}
+use Rattle.descriptors.specs.declared.Stage1.{Stage1}
+use Rattle.descriptors.specs.declared.Stage2.{Stage2}
 use Rattle.records.specs.declared.setup.Control.{Control}
 use Rattle.records.specs.declared.setup.LevelRegisters.{LevelRegisters}
 use Rattle.records.specs.declared.setup.Setup.{Setup}
-use Rattle.base.specs.Base.{directBase, baseOf}
-use Rattle.base.specs.Indirect.{codeOf, granted, indirectOf}
-use Rattle.base.specs.declared.Base.{Base}
-use Rattle.base.specs.declared.BaseAnswer.{BaseAnswer}
-use Rattle.base.specs.declared.BaseAnswer.the-variants as base
-use Rattle.rights.specs.Answers.{follow, faultUnless, refuseIf, descriptorAnswer}
-use Rattle.rights.specs.Checks.{clash, unjudged, setupCheck, accessCheck, leafCheck}
-use Rattle.rights.specs.Order.{dirty, baseAnswer, stage1Answer, stagesAnswer, leafAnswer, afterAccess, rightsAnswer}
-use Rattle.rights.specs.Overlay.{hasRight, has, bitOf, registerOf, slotRights, slotAnswer}
-use Rattle.rights.specs.Stage2.{stage2Rights, stage2Answer}
-use Rattle.rights.specs.declared.answer.Answer.{Answer}
-use Rattle.rights.specs.declared.answer.Answer.the-variants.{Permitted, Fault, Refused}
-use Rattle.rights.specs.declared.answer.Fault.{Fault as FaultOf}
-use Rattle.rights.specs.declared.answer.Kind.{Kind}
-use Rattle.rights.specs.declared.answer.Kind.the-variants.{Translation, AccessFlag, Permission, Overlay}
-use Rattle.rights.specs.declared.checks.AccessCheck.the-variants as access
+use Rattle.permissions.specs.Base.{directBase, baseOf}
+use Rattle.permissions.specs.Indirect.{codeOf, granted, indirectOf}
+use Rattle.permissions.specs.declared.Base.{Base}
+use Rattle.permissions.specs.declared.BaseAnswer.{BaseAnswer}
+use Rattle.permissions.specs.declared.BaseAnswer.the-variants as base
+use Rattle.checks.specs.Answers.{follow, faultUnless, refuseIf, descriptorAnswer}
+use Rattle.checks.specs.Checks.{clash, unjudged, setupCheck, accessCheck, leafCheck}
+use Rattle.stage1.specs.Stage1.{dirty, baseAnswer, stage1Answer}
+use Rattle.rights.specs.Order.{stagesAnswer, leafAnswer, afterAccess, rightsAnswer}
+use Rattle.stages.specs.Overlay.{hasRight, has, bitOf, registerOf, slotRights, slotAnswer}
+use Rattle.stage2.specs.Stage2.{stage2Rights, stage2Answer}
+use Rattle.checks.specs.declared.answer.Answer.{Answer}
+use Rattle.checks.specs.declared.answer.Answer.the-variants.{Permitted, Fault, Refused}
+use Rattle.checks.specs.declared.answer.Fault.{Fault as FaultOf}
+use Rattle.checks.specs.declared.answer.Kind.{Kind}
+use Rattle.checks.specs.declared.answer.Kind.the-variants.{Translation, AccessFlag, Permission, Overlay}
+use Rattle.checks.specs.declared.checks.AccessCheck.the-variants as access
 
 pub data Named : Answer → Type 0 where
   permits : Named Permitted

@@ -13,8 +13,8 @@ use Rattle.records.specs.declared.access.Level.the-variants.{Privileged, Unpriv
 use Rattle.records.specs.declared.setup.LevelRegisters.{LevelRegisters}
 use Rattle.records.specs.declared.setup.Setup.{Setup}
 use Rattle.records.specs.declared.setup.SetupRead.the-variants.{Read}
-use Rattle.rights.specs.Register.{put}
-use Rattle.judge.specs.Cases.{bytesOf}
+use Rattle.levels.specs.Register.{put}
+use Rattle.judgement.specs.Cases.{bytesOf}
 use Rattle.separation.specs.Separation.{withPor}
 
 -- a list is its bytes, one by one

@@ -12,8 +12,8 @@ use lib.ListN.{length, getD}
 use borrow.Author.Tests.{eqb-true}
 use Rattle.records.proofs.Cases.{upto, at}
 use Rattle.records.specs.Access.{accessAt, accessOf}
-use Rattle.records.specs.Bytes.{bit}
-use Rattle.records.specs.Leaf.{stage1Of, stage2Of}
+use Rattle.descriptors.specs.Bits.{bit}
+use Rattle.descriptors.specs.Descriptor.{stage1Of, stage2Of}
 use Rattle.records.specs.Setup.{setupOf, readSetup}
 use Rattle.records.specs.declared.access.Level.{Level}
 use Rattle.records.specs.declared.access.Level.the-variants.{Privileged, Unprivileged}
@@ -23,21 +23,21 @@ use Rattle.records.specs.declared.leaf.Leaf.{Leaf}
 use Rattle.records.specs.declared.setup.Setup.{Setup}
 use Rattle.records.specs.declared.setup.SetupRead.the-variants as setup
 use Rattle.rights.proofs.Named.{stages-answer}
-use Rattle.rights.specs.Answers.{permitted}
+use Rattle.checks.specs.Answers.{permitted}
 use Rattle.rights.specs.Order.{leafAnswer, rightsAnswer}
-use Rattle.rights.specs.Register.{put}
-use Rattle.rights.specs.declared.answer.Answer.{Answer}
-use Rattle.rights.specs.declared.answer.Answer.the-variants as answer
-use Rattle.judge.proofs.Demands.{list-meets}
-use Rattle.judge.specs.Demands.{isAllowed, judgedBit}
-use Rattle.judge.specs.Judge.{after, judged}
-use Rattle.judge.specs.List.{leafAt, listOf}
-use Rattle.judge.specs.declared.judge.Judgement.{Judgement}
-use Rattle.judge.specs.declared.list.Listed.the-variants.{Done}
-use Rattle.planner.proofs.Consequences.{access-number}
-use Rattle.planner.proofs.Theorem.{demand3}
-use Rattle.planner.specs.Plan.{planOf}
-use Rattle.planner.specs.Register.{accessNumber}
+use Rattle.levels.specs.Register.{put}
+use Rattle.checks.specs.declared.answer.Answer.{Answer}
+use Rattle.checks.specs.declared.answer.Answer.the-variants as answer
+use Rattle.judgement.proofs.Demands.{list-meets}
+use Rattle.judgement.specs.Demands.{isAllowed, judgedBit}
+use Rattle.judgement.specs.Judge.{after, judged}
+use Rattle.judgement.specs.List.{leafAt, listOf}
+use Rattle.judgement.specs.declared.Judgement.{Judgement}
+use Rattle.judgement.specs.declared.Listed.the-variants.{Done}
+use Rattle.plan.proofs.Consequences.{access-number}
+use Rattle.plan.proofs.Theorem.{demand3}
+use Rattle.plan.specs.Plan.{planOf}
+use Rattle.plan.specs.Register.{accessNumber}
 use Rattle.separation.proofs.InPlace.{put-read}
 use Rattle.separation.specs.Separation.{withPor, Separated}
 

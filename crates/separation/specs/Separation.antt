@@ -6,18 +6,18 @@ use mathlib.Core.Bool.{false}
 use mathlib.Core.List.{List, _++_}
 use lib.Bits.{bitAnd}
 use lib.ListN.{length, getD, take, drop}
-use Rattle.records.specs.Bytes.{bit}
+use Rattle.descriptors.specs.Bits.{bit}
 use Rattle.records.specs.declared.access.Level.{Level}
 use Rattle.records.specs.declared.access.Level.the-variants.{Privileged, Unprivileged}
 use Rattle.records.specs.declared.access.Right.{Right}
 use Rattle.records.specs.declared.setup.Setup.{Setup}
-use Rattle.judge.specs.Cases.{bytesOf}
-use Rattle.judge.specs.List.{leafAt, listOf}
-use Rattle.judge.specs.declared.list.Listed.the-variants.{Done}
-use Rattle.planner.specs.Demand3.{Accepted}
-use Rattle.planner.specs.Plan.{planOf}
-use Rattle.planner.specs.Register.{accessNumber}
-use Rattle.planner.specs.declared.Plan.the-variants.{Register}
+use Rattle.judgement.specs.Cases.{bytesOf}
+use Rattle.judgement.specs.List.{leafAt, listOf}
+use Rattle.judgement.specs.declared.Listed.the-variants.{Done}
+use Rattle.plan.specs.Demand3.{Accepted}
+use Rattle.plan.specs.Plan.{planOf}
+use Rattle.plan.specs.Register.{accessNumber}
+use Rattle.plan.specs.declared.Plan.the-variants.{Register}
 
 -- where a setup of 52 bytes holds a level's POR
 abbrev pub porPlace : Level → ℕ

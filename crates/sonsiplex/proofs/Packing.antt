@@ -4,17 +4,17 @@ use mathlib.Core.Logic.{inl, inr}
 use mathlib.Core.List.{List}
 use Prim.Native.Nat.{ℕ, _+_, _*_, _^_, _<_}
 use native.Mathlib.Omega.{arith}
-use Rattle.records.specs.Bytes.{field}
-use Rattle.judge.specs.Answers.{Values, judgementValues}
-use Rattle.judge.proofs.Bounds as list
-use Rattle.judge.specs.List.{listOf}
-use Rattle.judge.specs.declared.judge.Judgement.{Judgement}
-use Rattle.judge.specs.declared.list.Listed.{Listed}
-use Rattle.judge.specs.declared.list.Listed.the-variants as listed
-use Rattle.planner.proofs.Bounds as plan
-use Rattle.planner.specs.Plan.{planOf}
-use Rattle.planner.specs.declared.Plan.{Plan}
-use Rattle.planner.specs.declared.Plan.the-variants as planned
+use Rattle.descriptors.specs.Bits.{field}
+use Rattle.judgement.specs.Answers.{Values, judgementValues}
+use Rattle.judgement.proofs.Bounds as list
+use Rattle.judgement.specs.List.{listOf}
+use Rattle.judgement.specs.declared.Judgement.{Judgement}
+use Rattle.judgement.specs.declared.Listed.{Listed}
+use Rattle.judgement.specs.declared.Listed.the-variants as listed
+use Rattle.plan.proofs.Bounds as plan
+use Rattle.plan.specs.Plan.{planOf}
+use Rattle.plan.specs.declared.Plan.{Plan}
+use Rattle.plan.specs.declared.Plan.the-variants as planned
 use Rattle.sonsiplex.specs.Packing.{packValues, judgementFields, packJudgement, Numbers, numbers, packNumbers, numberFields, listNumbers, planNumbers}
 
 -- the values of a judgement

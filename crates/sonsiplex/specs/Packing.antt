@@ -1,13 +1,13 @@
 -- How the loader's answers are packed into 64 bits. docs/INTERFACE.md has the same bit by bit. The number of a refusal, 0 if there is none,
 -- is in bits 7:0 of every answer. Assumes nothing.
 use Prim.Native.Nat.{ℕ, _+_, _*_, _^_}
-use Rattle.records.specs.Bytes.{field}
-use Rattle.judge.specs.Answers.{Values, judgementValues}
-use Rattle.judge.specs.declared.judge.Judgement.{Judgement}
-use Rattle.judge.specs.declared.list.Listed.{Listed}
-use Rattle.judge.specs.declared.list.Listed.the-variants as listed
-use Rattle.planner.specs.Plan.{valuesOf}
-use Rattle.planner.specs.declared.Plan.{Plan}
+use Rattle.descriptors.specs.Bits.{field}
+use Rattle.judgement.specs.Answers.{Values, judgementValues}
+use Rattle.judgement.specs.declared.Judgement.{Judgement}
+use Rattle.judgement.specs.declared.Listed.{Listed}
+use Rattle.judgement.specs.declared.Listed.the-variants as listed
+use Rattle.plan.specs.Plan.{valuesOf}
+use Rattle.plan.specs.declared.Plan.{Plan}
 
 -- The judge: stage in bits 15:8, kind in 23:16, byte in 31:24, SH in 39:32. Bits 47:40 are kept for a fault's cause, 48 and 49 for the tagged
 -- and XS marks: they are 0, as all above them are

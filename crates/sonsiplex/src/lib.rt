@@ -2,15 +2,15 @@
 // byte slices as pointer and length, has no `requires`, and answers 64 bits, packed as specs/Packing.antt defines and docs/INTERFACE.md
 // lists. A refused call changes no lent byte.
 ghost use mathlib.Core.Path.{_≡_};
-ghost use Rattle.judge.specs.Answers.{judgementValues};
-ghost use Rattle.judge.specs.Judge.{judgeOf};
-ghost use Rattle.judge.specs.List.{listOf};
-ghost use Rattle.planner.specs.Plan.{planOf};
+ghost use Rattle.judgement.specs.Answers.{judgementValues};
+ghost use Rattle.judgement.specs.Judge.{judgeOf};
+ghost use Rattle.judgement.specs.List.{listOf};
+ghost use Rattle.plan.specs.Plan.{planOf};
 ghost use Rattle.sonsiplex.specs.Packing.{packJudgement, judgementFields, packNumbers, numberFields, listNumbers, planNumbers};
 use crate::pack::pack_judgement;
 use crate::pack::pack_numbers;
-use judge::list::Listed;
-use planner::Plan;
+use judgement::Listed;
+use plan::Plan;
 
 mod pack;
 
@@ -30,7 +30,7 @@ pub extern "C" fn sonsiplex_list(setup: &[u8], leaves: &[u8], out: &mut [u8]) ->
     ensures fields { λ r. ⌜ numberFields r ≡ listNumbers (listOf (now (setup .entry)) (now (leaves .entry)) (now (out .entry)) .answer) ⌝ }
     ensures written { λ _. ⌜ now (out .exit) ≡ listOf (now (setup .entry)) (now (leaves .entry)) (now (out .entry)) .out ⌝ }
 {
-    match judge::list::list_rights(setup, leaves, out) {
+    match lists::list_rights(setup, leaves, out) {
         Listed::Done(n) => pack_numbers(0, 0, n as u64),
         Listed::Refused { number, leaf } => pack_numbers(number, leaf, 0),
     }

@@ -1,11 +1,11 @@
 // Answers packed into 64 bits.
 ghost use mathlib.Core.Path.{_≡_};
 ghost use Prim.Native.Nat.{_+_, _*_, _^_, _<_};
-ghost use Rattle.records.specs.Bytes.{field};
-ghost use Rattle.judge.specs.Answers.{judgementValues, kindNumber};
+ghost use Rattle.descriptors.specs.Bits.{field};
+ghost use Rattle.judgement.specs.Answers.{judgementValues, kindNumber};
 ghost use Rattle.sonsiplex.specs.Packing.{packJudgement, judgementFields, numbers, packNumbers};
-use judge::judge::Judgement;
-use rights::answer::Kind;
+use checks::answer::Kind;
+use judgement::Judgement;
 
 fn wide(x: u8) -> u64
     ensures { λ r. ⌜ r ≡ x ⌝ }

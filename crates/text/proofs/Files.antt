@@ -9,13 +9,14 @@ use lib.Dec.{leb, ltb}
 use lib.ListN.{length, take, drop, replicate, length-append, length-replicate, drop-of-length-le}
 use lib.Seq.{take-at, length-take-le}
 use borrow.Author.Tests.{le-leb, lt-ltb, le-ltb}
-use Rattle.records.proofs.Fields.{whole, value-length, counted}
-use Rattle.records.specs.MapFile.{beginsWith, value, rest, Leaves, leaves, illFormed, leavesOf, fileOf, over, resultOf, readFile}
-use Rattle.records.specs.declared.file.FileRead.{FileRead}
-use Rattle.records.specs.declared.file.FileRead.the-variants as file
-use Rattle.judge.specs.List.{listOf}
-use Rattle.judge.specs.declared.list.Listed.{Listed}
-use Rattle.judge.specs.declared.list.Listed.the-variants.{Done, Refused}
+use Rattle.mapfile.proofs.LeafFields.{whole, value-length, counted}
+use Rattle.mapfile.specs.MapFile.{beginsWith, value, rest, Leaves, leaves, illFormed, leavesOf, fileOf, resultOf, readFile}
+use Rattle.records.specs.Bytes.{over}
+use Rattle.mapfile.specs.declared.FileRead.{FileRead}
+use Rattle.mapfile.specs.declared.FileRead.the-variants as file
+use Rattle.judgement.specs.List.{listOf}
+use Rattle.judgement.specs.declared.Listed.{Listed}
+use Rattle.judgement.specs.declared.Listed.the-variants.{Done, Refused}
 use Rattle.io.specs.Counts.{Counts}
 use Rattle.text.specs.Listing.{refusalLine, mapLines, listLines, mapText, fileText, textOf, written}
 use Rattle.text.specs.Put.{Put}

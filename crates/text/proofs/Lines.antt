@@ -7,7 +7,7 @@ use native.Mathlib.Omega.{arith}
 use lib.ListN.{length, getD, take, drop}
 use lib.Seq.{getD-take, getD-drop}
 use Rattle.records.specs.Leaf.{leafOf}
-use Rattle.judge.specs.List.{leafAt}
+use Rattle.judgement.specs.List.{leafAt}
 use Rattle.text.proofs.Puts.{then}
 use Rattle.text.specs.Listing.{leafLine, lineAt, linesFrom}
 use Rattle.text.specs.Put.{Put}

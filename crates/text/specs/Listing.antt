@@ -5,13 +5,14 @@ use mathlib.Core.List.{List, [], _++_}
 use lib.Bits.{bitAnd}
 use lib.Dec.{leb, ltb}
 use lib.ListN.{length, getD, replicate}
-use Rattle.records.specs.MapFile.{Leaves, leaves, illFormed, value, fileOf, over}
-use Rattle.judge.specs.List.{leafAt, listOf}
-use Rattle.judge.specs.declared.list.Listed.{Listed}
-use Rattle.judge.specs.declared.list.Listed.the-variants as listed
-use Rattle.planner.specs.Plan.{planOf}
-use Rattle.planner.specs.declared.Plan.{Plan}
-use Rattle.planner.specs.declared.Plan.the-variants as plan
+use Rattle.mapfile.specs.MapFile.{Leaves, leaves, illFormed, value, fileOf}
+use Rattle.records.specs.Bytes.{over}
+use Rattle.judgement.specs.List.{leafAt, listOf}
+use Rattle.judgement.specs.declared.Listed.{Listed}
+use Rattle.judgement.specs.declared.Listed.the-variants as listed
+use Rattle.plan.specs.Plan.{planOf}
+use Rattle.plan.specs.declared.Plan.{Plan}
+use Rattle.plan.specs.declared.Plan.the-variants as plan
 use Rattle.text.specs.Words.{ascii, decimal, hex16}
 
 -- a number and what follows it

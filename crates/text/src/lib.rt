@@ -4,7 +4,7 @@ ghost use mathlib.Core.Path.{_≡_};
 ghost use Prim.Native.Nat.{_+_, _*_, _≤_};
 ghost use lib.ListN.{length};
 ghost use Rattle.io.specs.Counts.{Counts};
-ghost use Rattle.planner.specs.Plan.{planOf};
+ghost use Rattle.plan.specs.Plan.{planOf};
 ghost use Rattle.text.specs.Listing.{lineAt, linesFrom, planLine, mapLines, mapText, written};
 ghost use Rattle.text.specs.Put.{Put};
 use crate::put::put_hex;
@@ -12,9 +12,9 @@ use crate::put::put_leaf;
 use crate::put::put_number;
 use crate::put::put_refusal;
 use crate::put::put_word;
-use judge::list::Listed;
-use planner::Plan;
-use records::file::FileRead;
+use judgement::Listed;
+use mapfile::FileRead;
+use plan::Plan;
 
 mod put;
 
@@ -68,7 +68,7 @@ fn put_list(out: &mut [u8], setup: &[u8], leaves: &[u8], n: usize) -> usize
     ensures { λ r. ⌜ Put (now (out .entry)) 0 (mapText (now (setup .entry)) (now (leaves .entry)) n) (now (out .exit)) r ⌝ }
 {
     let mut rights = [0u8; 2048];
-    match judge::list::list_rights(setup, leaves, &mut rights) {
+    match lists::list_rights(setup, leaves, &mut rights) {
         Listed::Done(_) => put_map(out, setup, leaves, n, &rights),
         Listed::Refused { number, leaf } => put_refusal(out, 0, number, leaf),
     }
@@ -85,7 +85,7 @@ pub fn write_listing(file: &[u8], out: &mut [u8]) -> usize
     }
     let mut setup = [0u8; 52];
     let mut leaves = [0u8; 36864];
-    match records::file::read_file(file, &mut setup, &mut leaves) {
+    match mapfile::read_file(file, &mut setup, &mut leaves) {
         FileRead::Map(n) => {
             let end = n * 18;
             put_list(out, &setup, &leaves[..end], n)

@@ -2,12 +2,12 @@
 -- refuses. Assumes nothing.
 use mathlib.Core.Path.{_≡_}
 use mathlib.Core.Bool.{false}
-use Rattle.attributes.specs.Mair.{stage1Byte, reservedByte}
-use Rattle.attributes.specs.StageTwoType.{memAttrOf, reservedMemAttr}
-use Rattle.attributes.specs.Combine.{resultByte}
-use Rattle.attributes.specs.Shareability.{reservedSH, resultSH}
-use Rattle.attributes.specs.Order.{attributesOf, memoryOf}
-use Rattle.attributes.proofs.Steps.{is-reserved, is-code}
+use Rattle.memory.specs.Mair.{stage1Byte, reservedByte}
+use Rattle.memory.specs.StageTwoType.{memAttrOf, reservedMemAttr}
+use Rattle.memory.specs.Combine.{resultByte}
+use Rattle.memory.specs.Shareability.{reservedSH, resultSH}
+use Rattle.memory.specs.Order.{attributesOf, memoryOf}
+use Rattle.memory.proofs.Steps.{is-reserved, is-code}
 use borrow.Author.Needs.{needs}
 use Rattle.attributes.proofs.access_attributes.Statement.{statement}
 use Rattle.attributes.proofs.access_attributes.Tie as tie

@@ -1,8 +1,8 @@
 -- `check_attributes` meets its contract: the tests are the definition's, and the two that give 8 are one. Assumes nothing.
-use Rattle.attributes.specs.Mair.{reservedByte}
-use Rattle.attributes.specs.StageTwoType.{memAttrOf, reservedMemAttr}
-use Rattle.attributes.specs.Order.{checkOf}
-use Rattle.attributes.proofs.Steps.{either}
+use Rattle.memory.specs.Mair.{reservedByte}
+use Rattle.memory.specs.StageTwoType.{memAttrOf, reservedMemAttr}
+use Rattle.memory.specs.Order.{checkOf}
+use Rattle.memory.proofs.Steps.{either}
 use borrow.Author.Needs.{needs}
 use Rattle.attributes.proofs.check_attributes.Statement.{statement}
 use Rattle.attributes.proofs.check_attributes.Tie as tie

@@ -1,5 +1,5 @@
 -- `base_rights` meets its contract: by Direct or Indirect. Assumes nothing.
-use Rattle.base.specs.Base.{baseOf}
+use Rattle.permissions.specs.Base.{baseOf}
 use borrow.Author.Needs.{needs}
 use Rattle.base.proofs.base_rights.Statement.{statement}
 use Rattle.base.proofs.base_rights.Tie as tie

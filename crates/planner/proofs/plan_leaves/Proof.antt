@@ -10,13 +10,13 @@ use native.Mathlib.Nat.{le-antisymm, sub-zero, add-sub-cancel-left}
 use lib.Dec.{eqb}
 use lib.ListN.{length, getD, take, drop, set, replicate}
 use denote.Ref.{now}
-use Rattle.planner.specs.Plan.{leafPlanOf, plansOf, refusalOf, orRefused, cutBy, uncured, refusedFrom, firstUncured, firstOf, cuts, settled, planLeaves}
-use Rattle.planner.specs.declared.Plan.the-variants.{Register, Refused}
-use Rattle.planner.specs.declared.leaf.LeafPlan.{LeafPlan}
-use Rattle.planner.specs.declared.leaf.LeafPlan.the-variants.{Cut}
-use Rattle.planner.proofs.Cuts.{Low, cuts-masks, sevens}
-use Rattle.planner.proofs.Leaves.{leaf-low}
-use Rattle.planner.proofs.Turns.{refused-go, cuts-go, first-go, refused-done, cuts-done, first-done, first-starts, uncured-settles, cured-settles}
+use Rattle.plan.specs.Plan.{leafPlanOf, plansOf, refusalOf, orRefused, cutBy, uncured, refusedFrom, firstUncured, firstOf, cuts, settled, planLeaves}
+use Rattle.plan.specs.declared.Plan.the-variants.{Register, Refused}
+use Rattle.plan.specs.declared.LeafPlan.{LeafPlan}
+use Rattle.plan.specs.declared.LeafPlan.the-variants.{Cut}
+use Rattle.plan.proofs.Cuts.{Low, cuts-masks, sevens}
+use Rattle.plan.proofs.Leaves.{leaf-low}
+use Rattle.plan.proofs.Turns.{refused-go, cuts-go, first-go, refused-done, cuts-done, first-done, first-starts, uncured-settles, cured-settles}
 use Rattle.planner.proofs.plan_leaves.Statement.{statement}
 use Rattle.planner.proofs.plan_leaves.Tie as tie
 

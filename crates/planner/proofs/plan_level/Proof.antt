@@ -4,12 +4,12 @@ use mathlib.Core.List.{List}
 use Prim.Native.Nat.{ℕ}
 use lib.ListN.{length}
 use denote.Ref.{now}
-use Rattle.planner.specs.Demand3.{Demanded}
-use Rattle.planner.specs.Plan.{startOf, planFrom, planOf, valuesOf}
-use Rattle.planner.specs.declared.Plan.{Plan}
-use Rattle.planner.specs.declared.start.Start.{Start}
-use Rattle.planner.proofs.Starts.{fits}
-use Rattle.planner.proofs.Theorem.{demand3}
+use Rattle.plan.specs.Demand3.{Demanded}
+use Rattle.plan.specs.Plan.{startOf, planFrom, planOf, valuesOf}
+use Rattle.plan.specs.declared.Plan.{Plan}
+use Rattle.plan.specs.declared.Start.{Start}
+use Rattle.plan.proofs.Starts.{fits}
+use Rattle.plan.proofs.Theorem.{demand3}
 use borrow.Author.Needs.{needs}
 use Rattle.planner.proofs.plan_level.Statement.{statement}
 use Rattle.planner.proofs.plan_level.Tie as tie

@@ -1,9 +1,9 @@
 -- `judge::judge_access` meets its contract: 13 for lengths before all else. Assumes nothing.
 use mathlib.Core.Path.{refl, sym, ap, _∙_}
 use Rattle.records.proofs.Lengths.{setup-13, leaf-13}
-use Rattle.judge.proofs.Demands.{judge-met}
-use Rattle.judge.proofs.Steps.{judge-as}
-use Rattle.judge.specs.declared.judge.Judgement.the-variants.{Refused}
+use Rattle.judgement.proofs.Demands.{judge-met}
+use Rattle.judgement.proofs.Steps.{judge-as}
+use Rattle.judgement.specs.declared.Judgement.the-variants.{Refused}
 use borrow.Author.Needs.{needs}
 use Rattle.judge.proofs.judge.judge_access.Statement.{statement}
 use Rattle.judge.proofs.judge.judge_access.Tie as tie

@@ -1,8 +1,8 @@
 -- `judge::judge_read` meets its contract: a fault or refusal stands, and a permitted access has the attribute steps. Assumes nothing.
-use Rattle.attributes.specs.Order.{attributesOf}
-use Rattle.records.specs.Leaf.{stage1Of, stage2Of}
-use Rattle.judge.specs.Judge.{fetches, combined, judged}
-use Rattle.judge.proofs.Steps.{stops}
+use Rattle.memory.specs.Order.{attributesOf}
+use Rattle.descriptors.specs.Descriptor.{stage1Of, stage2Of}
+use Rattle.judgement.specs.Judge.{fetches, combined, judged}
+use Rattle.judgement.proofs.Steps.{stops}
 use borrow.Author.Needs.{needs}
 use Rattle.judge.proofs.judge.judge_read.Statement.{statement}
 use Rattle.judge.proofs.judge.judge_read.Tie as tie

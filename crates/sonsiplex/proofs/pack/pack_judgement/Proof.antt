@@ -1,7 +1,7 @@
 -- `pack_judgement` packs the values of each case. Assumes nothing.
 use mathlib.Core.Path.{ap}
 use borrow.Author.Needs.{needs}
-use Rattle.judge.specs.Answers.{judgementValues}
+use Rattle.judgement.specs.Answers.{judgementValues}
 use Rattle.sonsiplex.proofs.Packing.{judgement}
 use Rattle.sonsiplex.proofs.pack.pack_judgement.Statement.{statement}
 use Rattle.sonsiplex.proofs.pack.pack_judgement.Tie as tie

@@ -1,3 +1,0 @@
-pub mod Direct
-pub mod Indirect
-pub mod Base

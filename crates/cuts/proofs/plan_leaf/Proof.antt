@@ -1,0 +1,71 @@
+-- `plan_leaf` meets its contract: the first refusal stands. Assumes nothing.
+use Rattle.plan.specs.Plan.{leafPlanOf}
+use Rattle.plan.specs.declared.LeafPlan.the-variants.{Refused}
+use Rattle.plan.proofs.Steps.{stands}
+use borrow.Author.Needs.{needs}
+use Rattle.cuts.proofs.plan_leaf.Statement.{statement}
+use Rattle.cuts.proofs.plan_leaf.Tie as tie
+
+read-leaf-requires : tie.Need-read-leaf-requires
+read-leaf-requires c κs = search needs
+
+enum-known-read : tie.Need-enum-known-read
+enum-known-read c = search needs
+
+enum-told : tie.Need-enum-told
+enum-told c = search needs
+
+returns : tie.Need-returns
+unfolding leafPlanOf
+returns c = rw (← (c .before .before .read-leaf .ensures), c .enum-told .given .1)
+
+check-leaf-requires : tie.Need-check-leaf-requires
+check-leaf-requires c κs = search needs
+
+enum-told-2 : tie.Need-enum-told-2
+enum-told-2 c = search needs
+
+number-of-requires : tie.Need-number-of-requires
+number-of-requires c κs = search needs
+
+returns-2 : tie.Need-returns-2
+unfolding leafPlanOf
+returns-2 c = rw (← (c .before .before .before .before .before .before .read-leaf .ensures), c .before .before .before .before .read .given .1, ← (c .before .before .check-leaf .ensures), c .number-of .ensures) (stands (c .before .before .check-leaf .result) Refused _ (c .before .match2 .keys2))
+
+read-stage1-requires : tie.Need-read-stage1-requires
+read-stage1-requires c κs = search needs
+
+read-stage2-requires : tie.Need-read-stage2-requires
+read-stage2-requires c κs = search needs
+
+read-limits-requires : tie.Need-read-limits-requires
+read-limits-requires c κs = search needs
+
+level-range-requires : tie.Need-level-range-requires
+level-range-requires c κs = search needs
+
+range-plan-requires : tie.Need-range-plan-requires
+range-plan-requires c κs = search needs
+
+returns-3 : tie.Need-returns-3
+unfolding leafPlanOf
+returns-3 c = rw (← (c .before .before .before .before .before .before .before .before .before .before .before .read-leaf .ensures), c .before .before .before .before .before .before .before .before .before .read .given .1, ← (c .before .before .before .before .before .before .before .check-leaf .ensures), c .before .before .before .before .before .enum-told2 .given .1, c .range-plan .ensures, c .before .level-range .ensures, c .before .before .read-limits .ensures, c .before .before .before .read-stage2 .ensures, c .before .before .before .before .read-stage1 .ensures)
+
+pub plan-leaf-spec : {M : Type 1} → statement M
+plan-leaf-spec =
+    tie.close
+    (tie.spec
+    read-leaf-requires
+    enum-known-read
+    enum-told
+    returns
+    check-leaf-requires
+    enum-told-2
+    number-of-requires
+    returns-2
+    read-stage1-requires
+    read-stage2-requires
+    read-limits-requires
+    level-range-requires
+    range-plan-requires
+    returns-3)

@@ -1,0 +1,68 @@
+-- One pass over a leaf, as the code makes it: private to the layer. The law `agree` of proofs/Agree says that it gives `leafRights` where
+-- no check of the setup refuses. Assumes nothing.
+use Prim.Native.Nat.{ℕ, _+_, _*_, _<_}
+use mathlib.Core.Bool.{Bool, cond}
+use lib.Dec.{eqb}
+use Rattle.descriptors.specs.Descriptor.{stage1Of, stage2Of, limitsOf}
+use Rattle.records.specs.declared.leaf.Leaf.{Leaf}
+use Rattle.records.specs.declared.setup.Setup.{Setup}
+use Rattle.checks.specs.Checks.{leafCheck}
+use Rattle.levels.specs.Level.{levelsOf}
+use Rattle.checks.specs.declared.answer.Answer.{Answer}
+use Rattle.checks.specs.declared.answer.Answer.the-variants as answer
+use Rattle.levels.specs.declared.LeafLevels.{LeafLevels}
+use Rattle.stages.specs.declared.level.LevelAnswer.{LevelAnswer}
+use Rattle.stages.specs.declared.level.LevelAnswer.the-variants as level
+use Rattle.stages.specs.declared.level.LevelRights.{LevelRights}
+use Rattle.memory.specs.Order.{checkOf}
+use Rattle.memory.specs.declared.Check.{Check}
+use Rattle.memory.specs.declared.Check.the-variants as check
+use Rattle.judgement.specs.declared.LeafRights.{LeafRights}
+use Rattle.judgement.specs.declared.LeafRights.the-variants.{Rights, Refused}
+
+-- a bit, 0 or 1
+abbrev pub one : Bool → ℕ
+one b = cond b 1 0
+
+-- the rights of a level as bits 0 to 2
+abbrev pub levelByte : LevelRights → ℕ
+levelByte r = one (r .read) + 2 * one (r .write) + 4 * one (r .execute)
+
+-- the attribute steps of rights that reach them
+abbrev pub checked : ℕ → Check → LeafRights
+checked b check.Passes = Rights b
+checked b (check.Refused n) = cond (eqb b 0) (Rights b) (Refused n)
+
+abbrev pub levelPart : LevelAnswer → Check → LeafRights
+levelPart (level.Rights r) c = checked (levelByte r) c
+levelPart (level.Refused n) c = Refused n
+
+-- rights below a bound
+abbrev pub Below : ℕ → LeafRights → Type 0
+Below k (Rights b) = b < k
+Below k (Refused n) = Unit {0}
+
+-- the privileged part, then the unprivileged one with two levels
+abbrev pub withUpper : ℕ → LeafRights → LeafRights
+withUpper b (Rights u) = Rights (b + 8 * u)
+withUpper b (Refused n) = Refused n
+
+abbrev pub join : Bool → LeafRights → LeafRights → LeafRights
+join two (Rights b) u = cond two (withUpper b u) (Rights b)
+join two (Refused n) u = Refused n
+
+abbrev pub passLevels : Bool → LeafLevels → Check → LeafRights
+passLevels two l c = join two (levelPart (l .privileged) c) (levelPart (l .unprivileged) c)
+
+-- 5 refuses the leaf; the check gives no fault
+abbrev pub afterCheck : Answer → LeafRights → LeafRights
+afterCheck answer.Permitted r = r
+afterCheck (answer.Fault f) r = Rights 0
+afterCheck (answer.Refused n) r = Refused n
+
+-- 5, then both levels
+unfoldable pub leafPass : Setup → Leaf → LeafRights
+leafPass s l =
+    afterCheck (leafCheck l)
+    (passLevels (s .control .two) (levelsOf s (stage1Of (l .stage1)) (stage2Of (l .stage2)) (limitsOf (l .limits)))
+    (checkOf s (stage1Of (l .stage1)) (stage2Of (l .stage2))))

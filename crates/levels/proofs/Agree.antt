@@ -1,0 +1,218 @@
+-- The one pass gives what the accesses of a level give one by one. Stage 1 and stage 2 are each seen first as what they do to every
+-- access; what is left is a rule over truth values, computed at all of them. Assumes nothing.
+use mathlib.Core.Path.{_≡_, refl}
+use mathlib.Core.Bool.{Bool, true, false, cond, _&&_}
+use mathlib.Core.List.{List, [], _∷_}
+use Prim.Native.Nat.{ℕ}
+use lib.Dec.{leb}
+use lib.ListN.{getD}
+use Rattle.records.proofs.Cases.{each}
+use Rattle.records.specs.Access.{accessOf}
+use Rattle.descriptors.specs.Bits.{bit}
+use Rattle.descriptors.specs.Descriptor.{slotAt}
+use Rattle.records.specs.declared.access.Level.{Level}
+use Rattle.records.specs.declared.access.Level.the-variants.{Privileged, Unprivileged}
+use Rattle.records.specs.declared.access.Right.{Right}
+use Rattle.records.specs.declared.access.Right.the-variants.{Read, Write, Execute}
+use Rattle.descriptors.specs.declared.Limits.{Limits}
+use Rattle.descriptors.specs.declared.Stage1.{Stage1}
+use Rattle.descriptors.specs.declared.Stage2.{Stage2}
+use Rattle.records.specs.declared.setup.LevelBits.{LevelBits}
+use Rattle.records.specs.declared.setup.Setup.{Setup}
+use Rattle.permissions.specs.Base.{baseOf}
+use Rattle.permissions.specs.declared.BaseAnswer.{BaseAnswer}
+use Rattle.permissions.specs.declared.BaseAnswer.the-variants as base
+use Rattle.checks.specs.Answers.{follow, faultOf, faultUnless, refuseIf, descriptorAnswer, permitted}
+use Rattle.levels.specs.Level.{collect, levelOf}
+use Rattle.stage1.specs.Stage1.{dirty, baseAnswer, stage1Answer}
+use Rattle.rights.specs.Order.{stagesAnswer}
+use Rattle.stages.specs.Overlay.{three, levelIn, hasRight, bitOf, registerOf, slotAnswer}
+use Rattle.levels.specs.Pass.{everything, fromBase, stage1Pass, stage2Pass, none, any, both, overlaid, passLevel, passWith, pass}
+use Rattle.stage2.specs.Stage2.{stage2Rights, stage2Answer}
+use Rattle.checks.specs.declared.answer.Answer.{Answer}
+use Rattle.checks.specs.declared.answer.Answer.the-variants.{Permitted, Refused}
+use Rattle.checks.specs.declared.answer.Kind.{Kind}
+use Rattle.checks.specs.declared.answer.Kind.the-variants.{Translation, AccessFlag, Permission, Overlay}
+use Rattle.levels.specs.declared.Stage1Pass.{Stage1Pass}
+use Rattle.levels.specs.declared.Stage1Pass.the-variants as one
+use Rattle.levels.specs.declared.Stage2Pass.{Stage2Pass}
+use Rattle.levels.specs.declared.Stage2Pass.the-variants as two
+use Rattle.stages.specs.declared.level.LevelAnswer.{LevelAnswer}
+use Rattle.stages.specs.declared.level.LevelAnswer.the-variants as level
+use Rattle.stages.specs.declared.level.LevelRights.{LevelRights}
+
+-- the fault that a descriptor gives every access, by its valid bit
+abbrev firstFault : ℕ → Bool → Answer
+firstFault s v = faultOf s (cond v AccessFlag Translation)
+
+-- what stage 2 answers to an access that reaches it
+abbrev stage2As : Stage2Pass → Answer → Level → Right → Answer
+stage2As (two.Granted g) f l r = faultUnless (hasRight (levelIn g l) r) 2 Permission
+stage2As two.Nothing f l r = f
+stage2As (two.Refused n) f l r = Refused n
+
+-- what stage 1 answers to an access
+abbrev stage1As : LevelBits → Stage1Pass → ℕ → Answer → Level → Right → Answer
+stage1As o (one.Granted b) v f l r =
+    follow (faultUnless (hasRight (levelIn (b .rights) l) r) 1 Permission) (slotAnswer (bitOf o l && bitOf (b .overlay) l) v r)
+stage1As o one.Nothing v f l r = f
+stage1As o (one.Refused n) v f l r = Refused n
+
+has-everything : (l : Level) (r : Right) → hasRight (levelIn everything l) r ≡ true
+has-everything Privileged Read = refl
+has-everything Privileged Write = refl
+has-everything Privileged Execute = refl
+has-everything Unprivileged Read = refl
+has-everything Unprivileged Write = refl
+has-everything Unprivileged Execute = refl
+
+never-overlaid : (b : Bool) (l : Level) → (b && bitOf (record { privileged = false; unprivileged = false }) l) ≡ false
+never-overlaid true Privileged = refl
+never-overlaid true Unprivileged = refl
+never-overlaid false Privileged = refl
+never-overlaid false Unprivileged = refl
+
+stage2-as : (on : Bool) (d : Stage2) (l : Level) (r : Right)
+    → cond on (stage2Answer d (accessOf l r)) Permitted ≡ stage2As (stage2Pass on d) (firstFault 2 (d .valid)) l r
+unfolding stage2Answer stage2Pass
+stage2-as on d l r = go on (d .valid) (d .af) (d .bit51)
+  where
+    go : (o v f b : Bool)
+        → cond o (follow (descriptorAnswer 2 v f b) (faultUnless (hasRight (levelIn (stage2Rights d) l) r) 2 Permission)) Permitted
+        ≡ stage2As (cond o (cond (v && f) (cond b (two.Refused 7) (two.Granted (stage2Rights d))) two.Nothing) (two.Granted everything)) (firstFault 2 v) l r
+    go false v f b = rw (has-everything l r)
+    go true false f b = refl
+    go true true false b = refl
+    go true true true true = refl
+    go true true true false = refl
+
+stage1-as : (s : Setup) (d : Stage1) (t : Limits) (l : Level) (r : Right)
+    → cond (s .control .stage1) (stage1Answer s d t (accessOf l r)) Permitted
+    ≡ stage1As (s .control .overlay) (stage1Pass s d t) (slotAt (registerOf (s .por) l) (d .poindex)) (firstFault 1 (d .valid)) l r
+unfolding stage1Answer stage1Pass
+stage1-as s d t l r = go (s .control .stage1) (d .valid) (d .af) (dirty (s .control) d) (baseOf s d t)
+  where
+    go : (o v f b : Bool) (x : BaseAnswer)
+        → cond o (follow (descriptorAnswer 1 v f b) (baseAnswer s d (accessOf l r) x)) Permitted
+        ≡ stage1As (s .control .overlay)
+        (cond o (cond (v && f) (cond b (one.Refused 7) (fromBase x)) one.Nothing) (one.Granted (record { rights = everything; overlay = record { privileged = false; unprivileged = false } })))
+        (slotAt (registerOf (s .por) l) (d .poindex)) (firstFault 1 v) l r
+    go false v f b x = rw (has-everything l r, never-overlaid (bitOf (s .control .overlay) l) l)
+    go true false f b x = refl
+    go true true false b x = refl
+    go true true true true x = refl
+    go true true true false (base.Granted b) = refl
+    go true true true false (base.Refused n) = refl
+
+-- one access: base right b, overlay on, slot reserved, slot's bit v, and what stage 2 answers
+abbrev answer : Bool → Bool → Bool → Bool → Answer → Answer
+answer b on reserved v y =
+    follow (follow (faultUnless b 1 Permission) (cond on (follow (refuseIf reserved 6) (faultUnless v 1 Overlay)) Permitted)) y
+
+abbrev at : List Bool → ℕ → Bool
+at m k = getD m k false
+
+-- three accesses, and the pass: truth values 0 to 2 base rights, 3 overlay on, 4 slot reserved, 5 to 7 the slot's rights, 8 to 10 what
+-- stage 2 grants
+abbrev accesses : (Bool → Answer) → List Bool → LevelAnswer
+accesses y m =
+    collect (answer (at m 0) (at m 3) (at m 4) (at m 5) (y (at m 8))) (answer (at m 1) (at m 3) (at m 4) (at m 6) (y (at m 9)))
+    (answer (at m 2) (at m 3) (at m 4) (at m 7) (y (at m 10)))
+
+abbrev passed : (LevelRights → LevelRights → LevelAnswer) → List Bool → LevelAnswer
+passed y m =
+    cond (at m 3 && at m 4 && any (three (at m 0) (at m 1) (at m 2))) (level.Refused 6)
+    (y (overlaid (at m 3) (three (at m 5) (at m 6) (at m 7)) (three (at m 0) (at m 1) (at m 2))) (three (at m 8) (at m 9) (at m 10)))
+
+abbrev values : LevelRights → Bool → ℕ → LevelRights → List Bool
+values r on v g =
+    r .read ∷ r .write ∷ r .execute ∷ on ∷ leb 8 v ∷ bit v 0 ∷ bit v 2 ∷ bit v 1 ∷ g .read ∷ g .write ∷ g .execute ∷ []
+
+passes : (r : LevelRights) (on : Bool) (v : ℕ) (t : Stage2Pass) (k : Kind) (l : Level)
+    → collect
+    (follow (follow (faultUnless (r .read) 1 Permission) (slotAnswer on v Read)) (stage2As t (faultOf 2 k) l Read))
+    (follow (follow (faultUnless (r .write) 1 Permission) (slotAnswer on v Write)) (stage2As t (faultOf 2 k) l Write))
+    (follow (follow (faultUnless (r .execute) 1 Permission) (slotAnswer on v Execute)) (stage2As t (faultOf 2 k) l Execute))
+    ≡ passLevel r on v t l
+passes r on v (two.Granted g) k l =
+    each (values r on v (levelIn g l)) (accesses (λ b. faultUnless b 2 Permission)) (passed (λ a b. level.Rights (both a b))) refl
+passes r on v two.Nothing k l =
+    each (values r on v none) (accesses (λ b. faultOf 2 k)) (passed (λ a b. level.Rights none)) refl
+passes r on v (two.Refused n) k l =
+    each (values r on v none) (accesses (λ b. Refused n)) (passed (λ a b. cond (any a) (level.Refused n) (level.Rights none))) refl
+
+-- the same with stage 1 as a whole
+with-stage1 : (o : LevelBits) (x : Stage1Pass) (v : ℕ) (t : Stage2Pass) (j k : Kind) (l : Level)
+    → collect (follow (stage1As o x v (faultOf 1 j) l Read) (stage2As t (faultOf 2 k) l Read))
+    (follow (stage1As o x v (faultOf 1 j) l Write) (stage2As t (faultOf 2 k) l Write))
+    (follow (stage1As o x v (faultOf 1 j) l Execute) (stage2As t (faultOf 2 k) l Execute))
+    ≡ passWith o x v t l
+with-stage1 o (one.Granted b) v t j k l = passes (levelIn (b .rights) l) (bitOf o l && bitOf (b .overlay) l) v t k l
+with-stage1 o one.Nothing v t j k l = refl
+with-stage1 o (one.Refused n) v t j k l = refl
+
+-- the rights of a level are those of the one pass
+pub agree : (s : Setup) (d : Stage1) (e : Stage2) (t : Limits) (l : Level) → levelOf s d e t l ≡ pass s d e t l
+unfolding levelOf stagesAnswer
+agree s d e t l =
+    rw (
+      stage1-as s d t l Read,
+      stage1-as s d t l Write,
+      stage1-as s d t l Execute,
+      stage2-as (s .control .stage2) e l Read,
+      stage2-as (s .control .stage2) e l Write,
+      stage2-as (s .control .stage2) e l Execute,
+    )
+    (with-stage1 (s .control .overlay) (stage1Pass s d t) (slotAt (registerOf (s .por) l) (d .poindex)) (stage2Pass (s .control .stage2) e)
+    (cond (d .valid) AccessFlag Translation) (cond (e .valid) AccessFlag Translation) l)
+
+-- what stands where a level is refused
+abbrev whenRefused : LevelAnswer → LevelRights → LevelRights
+whenRefused (level.Rights r) x = none
+whenRefused (level.Refused n) x = x
+
+-- the accesses that are permitted on a level that is refused
+abbrev left : Answer → Answer → Answer → LevelRights
+left a b c = whenRefused (collect a b c) (three (permitted a) (permitted b) (permitted c))
+
+abbrev leftOf : (Bool → Answer) → List Bool → LevelRights
+leftOf y m =
+    left (answer (at m 0) (at m 3) (at m 4) (at m 5) (y (at m 8))) (answer (at m 1) (at m 3) (at m 4) (at m 6) (y (at m 9)))
+    (answer (at m 2) (at m 3) (at m 4) (at m 7) (y (at m 10)))
+
+left-passes : (r : LevelRights) (on : Bool) (v : ℕ) (t : Stage2Pass) (k : Kind) (l : Level)
+    → left
+    (follow (follow (faultUnless (r .read) 1 Permission) (slotAnswer on v Read)) (stage2As t (faultOf 2 k) l Read))
+    (follow (follow (faultUnless (r .write) 1 Permission) (slotAnswer on v Write)) (stage2As t (faultOf 2 k) l Write))
+    (follow (follow (faultUnless (r .execute) 1 Permission) (slotAnswer on v Execute)) (stage2As t (faultOf 2 k) l Execute))
+    ≡ none
+left-passes r on v (two.Granted g) k l = each (values r on v (levelIn g l)) (leftOf (λ b. faultUnless b 2 Permission)) (λ m. none) refl
+left-passes r on v two.Nothing k l = each (values r on v none) (leftOf (λ b. faultOf 2 k)) (λ m. none) refl
+left-passes r on v (two.Refused n) k l = each (values r on v none) (leftOf (λ b. Refused n)) (λ m. none) refl
+
+left-with-stage1 : (o : LevelBits) (x : Stage1Pass) (v : ℕ) (t : Stage2Pass) (j k : Kind) (l : Level)
+    → left (follow (stage1As o x v (faultOf 1 j) l Read) (stage2As t (faultOf 2 k) l Read))
+    (follow (stage1As o x v (faultOf 1 j) l Write) (stage2As t (faultOf 2 k) l Write))
+    (follow (stage1As o x v (faultOf 1 j) l Execute) (stage2As t (faultOf 2 k) l Execute))
+    ≡ none
+left-with-stage1 o (one.Granted b) v t j k l = left-passes (levelIn (b .rights) l) (bitOf o l && bitOf (b .overlay) l) v t k l
+left-with-stage1 o one.Nothing v t j k l = refl
+left-with-stage1 o (one.Refused n) v t j k l = refl
+
+-- on a level that is refused no access is permitted: at one level there is at most one refusal, and every access that the base
+-- grants, or that reaches stage 2, meets it
+pub none-left : (s : Setup) (d : Stage1) (e : Stage2) (t : Limits) (l : Level)
+    → left (stagesAnswer s d e t (accessOf l Read)) (stagesAnswer s d e t (accessOf l Write)) (stagesAnswer s d e t (accessOf l Execute))
+    ≡ none
+unfolding stagesAnswer
+none-left s d e t l =
+    rw (
+      stage1-as s d t l Read,
+      stage1-as s d t l Write,
+      stage1-as s d t l Execute,
+      stage2-as (s .control .stage2) e l Read,
+      stage2-as (s .control .stage2) e l Write,
+      stage2-as (s .control .stage2) e l Execute,
+    )
+    (left-with-stage1 (s .control .overlay) (stage1Pass s d t) (slotAt (registerOf (s .por) l) (d .poindex)) (stage2Pass (s .control .stage2) e)
+    (cond (d .valid) AccessFlag Translation) (cond (e .valid) AccessFlag Translation) l)

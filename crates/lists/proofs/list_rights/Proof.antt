@@ -1,0 +1,157 @@
+-- `list_rights` meets its contract: each test picks its case of `listOf`, and the walk that `fill` made is the list's. Assumes nothing.
+use mathlib.Core.Path.{_≡_, sym, ap, _∙_}
+use mathlib.Core.List.{List}
+use Prim.Native.Nat.{ℕ, _/_, _≤_}
+use native.Mathlib.Omega.{arith}
+use lib.ListN.{length, take, length-replicate}
+use lib.Seq.{length-take-le}
+use denote.Ref.{now}
+use Rattle.records.proofs.Copies.{copied}
+use Rattle.records.proofs.Lengths.{setup-13}
+use Rattle.records.specs.declared.setup.Setup.{Setup}
+use Rattle.checks.specs.Checks.{setupCheck}
+use Rattle.checks.specs.declared.answer.Answer.the-variants as answer
+use Rattle.judgement.specs.List.{Walk, Result, refuse, finish, leavesOf, afterCheck, listOf}
+use Rattle.lists.specs.Walked.{walkIn, refusedOf}
+use Rattle.lists.proofs.Lists.{reads-as, met, result, refused-setup, odd, long, short, goes}
+use borrow.Author.Needs.{needs}
+use Rattle.lists.proofs.list_rights.Statement.{statement}
+use Rattle.lists.proofs.list_rights.Tie as tie
+
+-- the lent slices where the function starts, and the setup that was read
+abbrev start : tie.After-s → tie.Start
+start c = c .before .before .before .before .before .before
+
+abbrev given : tie.After-s → Setup
+given c = c .s .given .0 .0
+
+abbrev leaves : tie.After-s → List ℕ
+leaves c = now (start c .args .leaves)
+
+abbrev out : tie.After-s → List ℕ
+out c = now (start c .args .out)
+
+-- 13 does not apply
+reads : (c : tie.After-s) → listOf (now (start c .args .setup)) (leaves c) (out c) ≡ afterCheck (setupCheck (given c .control)) (leavesOf (given c) (leaves c) (out c)) (out c)
+reads c = reads-as _ _ _ _ (sym (c .before .before .read-setup .ensures) ∙ c .s .given .1)
+
+-- nor do 1, 2 and 3
+ok : (c : tie.After-enum-told2) → setupCheck (given (c .before .before .before .before .before) .control) ≡ answer.Permitted
+ok c = sym (c .before .before .check-setup .ensures) ∙ c .enum-told2 .given .1
+
+accepted : (c : tie.After-enum-told2) → listOf (now (start (c .before .before .before .before .before) .args .setup)) (leaves (c .before .before .before .before .before)) (out (c .before .before .before .before .before)) ≡ leavesOf (given (c .before .before .before .before .before)) (leaves (c .before .before .before .before .before)) (out (c .before .before .before .before .before))
+accepted c = reads (c .before .before .before .before .before) ∙ ap (λ x. afterCheck x (leavesOf (given (c .before .before .before .before .before)) (leaves (c .before .before .before .before .before)) (out (c .before .before .before .before .before))) (out (c .before .before .before .before .before))) (ok c)
+
+-- the walk that the code made is the list's
+walked : (c : tie.After-fill) (w : Walk) → walkIn (c .fill .result) (length (leaves (c .before .before .before .before .before .before .before .before .before .before)) / 18) (c .fill .last .1 .1 .1 .0) ≡ w
+    → listOf (now (start (c .before .before .before .before .before .before .before .before .before .before) .args .setup)) (leaves (c .before .before .before .before .before .before .before .before .before .before)) (out (c .before .before .before .before .before .before .before .before .before .before)) ≡ finish w (length (leaves (c .before .before .before .before .before .before .before .before .before .before)) / 18) (out (c .before .before .before .before .before .before .before .before .before .before))
+walked c w e =
+    accepted (c .before .before .before .before .before) ∙ goes _ _ _ (c .before .before .before .before .if1 .left) (ok (c .before .before .before .before .before)) (c .before .before .before .if2 .left) (c .before .before .if3 .left) w (c .fill .ensures ∙ e)
+
+-- the rights of all leaves fit into the local buffer
+room : (c : tie.After-fill) → length (leaves (c .before .before .before .before .before .before .before .before .before .before)) / 18 ≤ length (c .fill .last .1 .1 .1 .0)
+room c = let h = c .before .before .before .if2 .left in omega (arith, c .fill .kept .1 .1 .1 .0, length-replicate {A = ℕ} 2048 0)
+
+read-setup-requires : tie.Need-read-setup-requires
+read-setup-requires c κs = search needs
+
+enum-known-s : tie.Need-enum-known-s
+enum-known-s c = search needs
+
+enum-told : tie.Need-enum-told
+enum-told c = search needs
+
+returns : tie.Need-returns
+returns c = let q = sym (c .before .before .read-setup .ensures) ∙ c .enum-told .given .1 in
+    let o = now (c .before .before .before .before .before .before .args .out) in
+    result _ _ _ (refuse 13 0 o) (reads-as _ _ _ _ q ∙ ap (λ (k : ℕ). refuse k 0 o) (setup-13 _ _ q))
+
+check-setup-requires : tie.Need-check-setup-requires
+check-setup-requires c κs = search needs
+
+enum-told-2 : tie.Need-enum-told-2
+enum-told-2 c = search needs
+
+number-of-requires : tie.Need-number-of-requires
+number-of-requires c κs = search needs
+
+returns-2 : tie.Need-returns-2
+returns-2 c = let o = out (c .before .before .before .before .before) in
+    result _ _ _ (refuse (c .number-of .result) 0 o)
+    (reads (c .before .before .before .before .before) ∙ ap (λ x. afterCheck x (leavesOf (given (c .before .before .before .before .before)) (leaves (c .before .before .before .before .before)) o) o) (sym (c .before .before .check-setup .ensures))
+    ∙ refused-setup (c .before .before .check-setup .result) (leavesOf (given (c .before .before .before .before .before)) (leaves (c .before .before .before .before .before)) o) o (c .before .match2 .keys2) ∙ ap (λ (k : ℕ). refuse k 0 o) (sym (c .number-of .ensures)))
+
+returns-3 : tie.Need-returns-3
+returns-3 c = result _ _ _ _ (accepted (c .before) ∙ odd _ _ _ (c .if1 .taken))
+
+returns-4 : tie.Need-returns-4
+returns-4 c = result _ _ _ _ (accepted (c .before .before) ∙ long _ _ _ (c .before .if1 .left) (c .if2 .taken))
+
+returns-5 : tie.Need-returns-5
+returns-5 c = result _ _ _ _ (accepted (c .before .before .before) ∙ short _ _ _ (c .before .before .if1 .left) (c .before .if2 .left) (c .if3 .taken))
+
+slice-aggregate-fill : tie.Need-slice-aggregate-fill
+slice-aggregate-fill c = search needs
+
+fill-requires : tie.Need-fill-requires
+fill-requires c κs = search needs
+
+enum-told-3 : tie.Need-enum-told-3
+enum-told-3 c = search needs
+
+enum-told-4 : tie.Need-enum-told-4
+enum-told-4 c = search needs
+
+refused-requires : tie.Need-refused-requires
+refused-requires c κs = search needs
+
+returns-6 : tie.Need-returns-6
+returns-6 c = let f = c .before .before .before .before in
+    let e = walked f _ (ap (λ w. walkIn w (length (leaves (f .before .before .before .before .before .before .before .before .before .before)) / 18) (f .fill .last .1 .1 .1 .0)) (c .before .enum-told4 .given .1)) in
+    met _ _ _ (c .refused .result) (out (f .before .before .before .before .before .before .before .before .before .before)) (c .refused .ensures ∙ ap refusedOf (c .before .enum-told4 .given .1) ∙ ap (λ (y : Result). y .answer) (sym e)) (ap (λ (y : Result). y .out) (sym e))
+
+array-share-prefix-rights : tie.Need-array-share-prefix-rights
+array-share-prefix-rights c = search needs
+
+slice-aggregate-copy : tie.Need-slice-aggregate-copy
+slice-aggregate-copy c = sym (length-take-le _ _ (room (c .before .before .before .before)))
+
+copy-requires : tie.Need-copy-requires
+copy-requires c κs = rw (length-take-le _ _ (room (c .before .before .before .before .before))) (c .before .before .before .before .before .before .before .if3 .left)
+
+same-length : tie.Need-same-length
+same-length c = search needs
+
+returns-7 : tie.Need-returns-7
+returns-7 c = let f = c .before .before .before .before .before .before .before .before in
+    let v = f .fill .last .1 .1 .1 .0 in
+    let e = walked f _ (ap (λ w. walkIn w (length (leaves (f .before .before .before .before .before .before .before .before .before .before)) / 18) v) (c .before .before .before .before .before .enum-told3 .given .1)) in
+    met _ _ _ _ (c .before .before .copy .last .1 .0) (ap (λ (y : Result). y .answer) (sym e))
+    (c .before .before .copy .ensures .1 ∙ copied (take (length (leaves (f .before .before .before .before .before .before .before .before .before .before)) / 18) v) (out (f .before .before .before .before .before .before .before .before .before .before)) ∙ ap (λ (y : Result). y .out) (sym e))
+
+pub list-rights-spec : {M : Type 1} → statement M
+list-rights-spec =
+    tie.close
+    (tie.spec
+    read-setup-requires
+    enum-known-s
+    enum-told
+    returns
+    check-setup-requires
+    enum-told-2
+    number-of-requires
+    returns-2
+    returns-3
+    returns-4
+    returns-5
+    slice-aggregate-fill
+    fill-requires
+    enum-told-3
+    enum-told-4
+    refused-requires
+    returns-6
+    array-share-prefix-rights
+    slice-aggregate-copy
+    copy-requires
+    same-length
+    returns-7)

@@ -1,0 +1,74 @@
+-- `pass_at` meets its contract: the 18 bytes of a leaf are read, so that no length is refused. Assumes nothing.
+use mathlib.Core.Path.{_≡_, sym, _∙_}
+use mathlib.Core.List.{List}
+use Prim.Native.Nat.{ℕ, _*_, _+_, _-_, _≤_}
+use native.Mathlib.Nat.{add-sub-cancel-left}
+use native.Mathlib.Omega.{arith}
+use lib.ListN.{length, take, drop, length-take, length-drop}
+use denote.Ref.{now}
+use Rattle.records.proofs.Lengths.{leaf-read}
+use Rattle.records.specs.Leaf.{readLeaf}
+use Rattle.records.specs.declared.leaf.LeafRead.the-variants.{Read}
+use Rattle.judgement.specs.List.{leafAt}
+use Rattle.lists.specs.Walked.{passAt}
+use borrow.Author.Needs.{needs}
+use Rattle.lists.proofs.pass_at.Statement.{statement}
+use Rattle.lists.proofs.pass_at.Tie as tie
+
+-- 18 bytes of a list are its leaf
+part : (ls : List ℕ) (i : ℕ) → i * 18 + 18 ≤ length ls → readLeaf (take (i * 18 + 18 - i * 18) (drop (i * 18) ls)) ≡ Read (leafAt ls i)
+part ls i h =
+    rw (add-sub-cancel-left (i * 18) 18) (leaf-read (take 18 (drop (i * 18) ls)) (simp (length-take, length-drop) (omega arith)))
+
+read : (c : tie.After-read-leaf) → c .read-leaf .result ≡ Read (leafAt (now (c .before .before .before .args .leaves)) (c .before .before .before .args .i))
+read c = c .read-leaf .ensures ∙ part _ _ (c .before .before .before .pre)
+
+mul-from : tie.Need-mul-from
+mul-from c = search needs
+
+add-to : tie.Need-add-to
+add-to c = search needs
+
+sub-read-leaf : tie.Need-sub-read-leaf
+sub-read-leaf c = search needs
+
+part-read-leaf-start : tie.Need-part-read-leaf-start
+part-read-leaf-start c = search needs
+
+part-read-leaf-end : tie.Need-part-read-leaf-end
+part-read-leaf-end c = search needs
+
+read-leaf-requires : tie.Need-read-leaf-requires
+read-leaf-requires c κs = search needs
+
+enum-known-l : tie.Need-enum-known-l
+enum-known-l c = search needs
+
+enum-told : tie.Need-enum-told
+enum-told c = search needs
+
+returns : tie.Need-returns
+returns c = let e = sym (c .enum-told .given .1) ∙ read (c .before .before) in let z : _≡_ {A = ℕ} 0 1 = cc in absurd (omega arith)
+
+leaf-rights-requires : tie.Need-leaf-rights-requires
+leaf-rights-requires c κs = search needs
+
+returns-2 : tie.Need-returns-2
+unfolding passAt
+returns-2 c = let e : c .before .before .l .given .0 .0 ≡ leafAt (now (c .before .before .before .before .before .before .before .args .leaves)) (c .before .before .before .before .before .before .before .args .i) = (let q = sym (c .before .before .l .given .1) ∙ read (c .before .before .before .before) in cc) in rw (c .leaf-rights .ensures, e)
+
+pub pass-at-spec : {M : Type 1} → statement M
+pass-at-spec =
+    tie.close
+    (tie.spec
+    mul-from
+    add-to
+    sub-read-leaf
+    part-read-leaf-start
+    part-read-leaf-end
+    read-leaf-requires
+    enum-known-l
+    enum-told
+    returns
+    leaf-rights-requires
+    returns-2)

@@ -1,0 +1,26 @@
+-- What `fill` answers: private to the layer. Assumes nothing.
+use Prim.Native.Nat.{ℕ}
+use mathlib.Core.List.{List}
+use lib.ListN.{take}
+use Rattle.records.specs.declared.setup.Setup.{Setup}
+use Rattle.judgement.specs.List.{Walk, bytes, refused, leafAt}
+use Rattle.judgement.specs.Pass.{leafPass}
+use Rattle.judgement.specs.declared.LeafRights.{LeafRights}
+use Rattle.judgement.specs.declared.Listed.{Listed}
+use Rattle.judgement.specs.declared.Listed.the-variants as listed
+use Rattle.lists.specs.declared.Walked.{Walked}
+use Rattle.lists.specs.declared.Walked.the-variants.{All, Refused}
+
+-- the pass over leaf i
+unfoldable pub passAt : Setup → List ℕ → ℕ → LeafRights
+passAt s ls i = leafPass s (leafAt ls i)
+
+-- the walk that an answer and the buffer's contents stand for
+abbrev pub walkIn : Walked → ℕ → List ℕ → Walk
+walkIn All n v = bytes (take n v)
+walkIn (Refused k i) n v = refused k i
+
+-- the list's answer to a walk that was refused; it is not asked of one that was not
+abbrev pub refusedOf : Walked → Listed
+refusedOf All = listed.Done 0
+refusedOf (Refused k i) = listed.Refused k i

@@ -1,0 +1,6 @@
+pub mod StageTwoType
+pub mod Mair
+pub mod Shareability
+pub mod Step
+pub mod Combine
+pub mod Order

@@ -1,0 +1,170 @@
+-- Document 01, 'The planner' and the planner's sentences of 'The order a judgement is made in': the checks 13, 1, 2, 3, 4, 12, 11; leaf by
+-- leaf 5, 6 and 7; then 10; then the register. Assumes nothing.
+use Prim.Native.Nat.{ℕ, zero, suc, _*_, _/_, _%_}
+use mathlib.Core.List.{List}
+use mathlib.Core.Bool.{Bool, false, cond, _&&_, _||_}
+use lib.Dec.{eqb, leb, ltb}
+use lib.ListN.{length, getD, take, drop, set, replicate}
+use Rattle.descriptors.specs.Bits.{bit}
+use Rattle.records.specs.Leaf.{readLeaf}
+use Rattle.descriptors.specs.Descriptor.{stage1Of, stage2Of, limitsOf}
+use Rattle.records.specs.Setup.{readSetup}
+use Rattle.records.specs.declared.access.Level.{Level}
+use Rattle.records.specs.declared.access.Right.the-variants.{Read, Write, Execute}
+use Rattle.records.specs.declared.leaf.LeafRead.{LeafRead}
+use Rattle.records.specs.declared.leaf.LeafRead.the-variants as leaf
+use Rattle.records.specs.declared.setup.Setup.{Setup}
+use Rattle.records.specs.declared.setup.SetupRead.{SetupRead}
+use Rattle.records.specs.declared.setup.SetupRead.the-variants as setup
+use Rattle.checks.specs.Checks.{setupCheck, levelCheck, leafCheck}
+use Rattle.levels.specs.Level.{rangeOf}
+use Rattle.stages.specs.Overlay.{three, bitOf}
+use Rattle.checks.specs.declared.answer.Answer.{Answer}
+use Rattle.checks.specs.declared.answer.Answer.the-variants as answer
+use Rattle.checks.specs.declared.checks.LevelCheck.{LevelCheck}
+use Rattle.checks.specs.declared.checks.LevelCheck.the-variants as level
+use Rattle.levels.specs.declared.LevelRange.{LevelRange}
+use Rattle.levels.specs.declared.LevelRange.the-variants as range
+use Rattle.stages.specs.declared.level.LevelRights.{LevelRights}
+use Rattle.plan.specs.Register.{accessNumber, slotNumber, cutMask, packFrom}
+use Rattle.plan.specs.declared.Plan.{Plan}
+use Rattle.plan.specs.declared.Plan.the-variants.{Register, Refused}
+use Rattle.plan.specs.declared.LeafPlan.{LeafPlan}
+use Rattle.plan.specs.declared.LeafPlan.the-variants as plan
+use Rattle.plan.specs.declared.Start.{Start}
+use Rattle.plan.specs.declared.Start.the-variants as start
+
+-- the paper's number and values of an answer: a refusal's number and leaf, with register 0; a register, with number and leaf 0
+pub record Values : Type 0 where
+  pub number : ℕ
+  pub leaf : ℕ
+  pub register : ℕ
+
+abbrev pub valuesOf : Plan → Values
+valuesOf (Register r) = record { number = 0; leaf = 0; register = r }
+valuesOf (Refused n i) = record { number = n; leaf = i; register = 0 }
+
+-- the number of a check's refusal; a check never faults
+abbrev pub numberOf : Answer → ℕ
+numberOf answer.Permitted = 0
+numberOf (answer.Fault f) = 0
+numberOf (answer.Refused n) = n
+
+-- what follows a check that permits, or its refusal
+abbrev pub after : {A : Type 0} → Answer → (ℕ → A) → A → A
+after answer.Permitted refuse x = x
+after (answer.Fault f) refuse x = refuse 0
+after (answer.Refused n) refuse x = refuse n
+
+-- 12: stage 1 or that level's overlay is off. 11: the list is not a multiple of 18 bytes or over 2,048 leaves
+abbrev pub startLevel : Setup → ℕ → LevelCheck → Start
+startLevel s len (level.Refused n) = start.Refused 4
+startLevel s len (level.Known l) =
+    cond (s .control .stage1 && bitOf (s .control .overlay) l)
+    (cond (eqb (len % 18) 0 && leb (len / 18) 2048) (start.Leaves s l) (start.Refused 11)) (start.Refused 12)
+
+-- 1, 2, 3, then 4, 12, 11
+abbrev pub startSetup : ℕ → ℕ → SetupRead → Start
+startSetup lv len (setup.Refused n) = start.Refused 13
+startSetup lv len (setup.Read s) = after (setupCheck (s .control)) start.Refused (startLevel s len (levelCheck lv))
+
+-- 13, 1, 2, 3, 4, 12, 11, for a list of `len` bytes
+unfoldable pub startOf : List ℕ → ℕ → ℕ → Start
+startOf bytes lv len = startSetup lv len (readSetup bytes)
+
+-- the level's rights that a forbidden byte forbids
+abbrev pub forbiddenRights : ℕ → Level → LevelRights
+forbiddenRights f l = three (bit f (accessNumber l Read)) (bit f (accessNumber l Write)) (bit f (accessNumber l Execute))
+
+-- rights that are in both, and whether there is one
+abbrev pub common : LevelRights → LevelRights → LevelRights
+common a b = three (a .read && b .read) (a .write && b .write) (a .execute && b .execute)
+
+abbrev pub any : LevelRights → Bool
+any a = a .read || a .write || a .execute
+
+-- the slot bits that must be off at the leaf's place, those of forbidden rights that are on with every slot bit on; and whether no register
+-- cures the leaf, where a forbidden right is on with every slot bit off
+abbrev pub rangePlan : ℕ → Level → LevelRange → LeafPlan
+rangePlan f l (range.Refused n) = plan.Refused n
+rangePlan f l (range.Range k full bare) =
+    plan.Cut k (slotNumber (common (forbiddenRights f l) full)) (any (common (forbiddenRights f l) bare))
+
+-- 5, then the 6 or 7 that an access of that level meets with 77777777 in place of that level's POR. Bytes that are no leaf give 13
+abbrev pub leafPlan : Setup → Level → LeafRead → LeafPlan
+leafPlan s l (leaf.Refused n) = plan.Refused 13
+leafPlan s l (leaf.Read f) =
+    after (leafCheck f) plan.Refused
+    (rangePlan (f .forbidden) l (rangeOf s (stage1Of (f .stage1)) (stage2Of (f .stage2)) (limitsOf (f .limits)) l))
+
+unfoldable pub leafPlanOf : Setup → Level → List ℕ → LeafPlan
+leafPlanOf s l bytes = leafPlan s l (readLeaf bytes)
+
+-- the bytes of leaf i of a list
+abbrev pub leafAt : List ℕ → ℕ → List ℕ
+leafAt ls i = take 18 (drop (i * 18) ls)
+
+-- the plans of a list's leaves, by index
+abbrev pub plansOf : Setup → Level → List ℕ → ℕ → LeafPlan
+plansOf s l ls i = leafPlanOf s l (leafAt ls i)
+
+-- the number of a leaf's refusal
+abbrev pub refusalOf : LeafPlan → ℕ
+refusalOf (plan.Cut k t u) = 0
+refusalOf (plan.Refused n) = n
+
+-- a leaf's refusal, or what is answered where it has none
+abbrev pub orRefused : LeafPlan → ℕ → Plan → Plan
+orRefused (plan.Cut k t u) i p = p
+orRefused (plan.Refused n) i p = Refused n i
+
+-- the masks after a leaf
+abbrev pub cutBy : LeafPlan → List ℕ → List ℕ
+cutBy (plan.Cut k t u) ms = set ms k (cutMask (getD ms k 0) t)
+cutBy (plan.Refused n) ms = ms
+
+-- no register cures the leaf
+abbrev pub uncured : LeafPlan → Bool
+uncured (plan.Cut k t u) = u
+uncured (plan.Refused n) = false
+
+-- Each function below goes over the leaves from index i on, of which there are as many as the number before i says.
+
+-- the first refusal of a leaf, or what is answered where there is none
+unfoldable pub refusedFrom : (ℕ → LeafPlan) → Plan → ℕ → ℕ → Plan
+refusedFrom P p zero i = p
+refusedFrom P p (suc m) i = orRefused (P i) i (refusedFrom P p m (suc i))
+
+-- the first leaf that no register can cure, or the index past the last leaf
+unfoldable pub firstUncured : (ℕ → LeafPlan) → ℕ → ℕ → ℕ
+firstUncured P zero i = i
+firstUncured P (suc m) i = cond (uncured (P i)) i (firstUncured P m (suc i))
+
+-- the eight masks, cut leaf by leaf
+unfoldable pub cuts : (ℕ → LeafPlan) → ℕ → ℕ → List ℕ → List ℕ
+cuts P zero i ms = ms
+cuts P (suc m) i ms = cuts P m (suc i) (cutBy (P i) ms)
+
+-- the register of n leaves: eight masks, 7 each at first
+unfoldable pub registerFor : (ℕ → LeafPlan) → ℕ → ℕ
+registerFor P n = packFrom (cuts P n 0 (replicate 8 7)) 8 0
+
+-- 10 names the first leaf that no register can cure
+unfoldable pub settled : (ℕ → LeafPlan) → ℕ → Plan
+settled P n = cond (ltb (firstUncured P n 0) n) (Refused 10 (firstUncured P n 0)) (Register (registerFor P n))
+
+-- all leaves' 5, 6 and 7 come before 10
+unfoldable pub planLeaves : Setup → Level → List ℕ → Plan
+planLeaves s l ls = refusedFrom (plansOf s l ls) (settled (plansOf s l ls) (length ls / 18)) (length ls / 18) 0
+
+-- a refusal before the leaves has leaf 0
+abbrev pub planFrom : List ℕ → Start → Plan
+planFrom ls (start.Refused n) = Refused n 0
+planFrom ls (start.Leaves s l) = planLeaves s l ls
+
+unfoldable pub planOf : List ℕ → ℕ → List ℕ → Plan
+planOf bytes lv ls = planFrom ls (startOf bytes lv (length ls))
+
+-- one turn of the search for the first leaf that no register cures: `first` is the one found so far, or n
+abbrev pub firstOf : ℕ → ℕ → ℕ → Bool → ℕ
+firstOf first n i u = cond u (cond (eqb first n) i first) first

@@ -1,0 +1,38 @@
+-- Document 01, 'The order a judgement is made in', stage 1: its steps for one access. Assumes nothing.
+use mathlib.Core.Bool.{Bool, cond, _&&_}
+use Rattle.descriptors.specs.Descriptor.{slotAt}
+use Rattle.records.specs.declared.access.Access.{Access}
+use Rattle.descriptors.specs.declared.Limits.{Limits}
+use Rattle.descriptors.specs.declared.Stage1.{Stage1}
+use Rattle.records.specs.declared.setup.Control.{Control}
+use Rattle.records.specs.declared.setup.Setup.{Setup}
+use Rattle.permissions.specs.Base.{baseOf}
+use Rattle.permissions.specs.declared.Base.{Base}
+use Rattle.permissions.specs.declared.BaseAnswer.{BaseAnswer}
+use Rattle.permissions.specs.declared.BaseAnswer.the-variants as base
+use Rattle.checks.specs.Answers.{follow, faultUnless, descriptorAnswer}
+use Rattle.stages.specs.Overlay.{has, bitOf, registerOf, slotAnswer}
+use Rattle.checks.specs.declared.answer.Answer.{Answer}
+use Rattle.checks.specs.declared.answer.Answer.the-variants.{Refused}
+use Rattle.checks.specs.declared.answer.Kind.the-variants.{Permission}
+
+-- dirty state at stage 1: bit 51 set under Direct, bit 7 under Indirect
+abbrev pub dirty : Control → Stage1 → Bool
+dirty c d = cond (c .indirect) (d .bit7) (d .bit51)
+
+-- the overlay: on for the access's level, and applying to the base right; the slot at POIndex in that level's POR
+abbrev pub overlayAnswer : Setup → Stage1 → Base → Access → Answer
+overlayAnswer s d b a =
+    slotAnswer (bitOf (s .control .overlay) (a .level) && bitOf (b .overlay) (a .level))
+    (slotAt (registerOf (s .por) (a .level)) (d .poindex)) (a .right)
+
+-- base codes 6, then 7 (in that order by baseOf); Permission fault; overlay code 6; Overlay fault
+abbrev pub baseAnswer : Setup → Stage1 → Access → BaseAnswer → Answer
+baseAnswer s d a (base.Granted b) =
+    follow (faultUnless (has (b .rights) a) 1 Permission) (overlayAnswer s d b a)
+baseAnswer s d a (base.Refused n) = Refused n
+
+-- stage 1: Translation fault, Access flag fault, 7 for dirty state, then the base codes and what follows
+unfoldable pub stage1Answer : Setup → Stage1 → Limits → Access → Answer
+stage1Answer s d t a =
+    follow (descriptorAnswer 1 (d .valid) (d .af) (dirty (s .control) d)) (baseAnswer s d a (baseOf s d t))

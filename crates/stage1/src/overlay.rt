@@ -1,0 +1,44 @@
+// The overlay of one access.
+ghost use mathlib.Core.Path.{_≡_};
+ghost use Rattle.stages.specs.Overlay.{slotAnswer};
+ghost use Rattle.stage1.specs.Stage1.{overlayAnswer};
+use checks::answer::Answer;
+use checks::answer::Kind;
+use checks::answer::fault_unless;
+use checks::answer::refuse_if;
+use descriptors::Stage1;
+use permissions::Base;
+use records::access::Access;
+use records::access::Right;
+use records::setup::Setup;
+use stages::level::bit_of;
+use stages::level::has_right;
+use stages::level::register_of;
+use stages::level::slot_rights;
+
+// The overlay where it is on and applies: a reserved slot, then an Overlay fault.
+fn slot_answer(on: bool, v: u8, r: Right) -> Answer
+    ensures { λ x. ⌜ x ≡ slotAnswer on v r ⌝ }
+{
+    if on {
+        let slot = refuse_if(8 <= v, 6);
+        let Answer::Permitted = slot else {
+            return slot;
+        };
+        return fault_unless(has_right(slot_rights(v), r), 1, Kind::Overlay);
+    }
+    Answer::Permitted
+}
+
+pub fn overlay_answer(s: Setup, d: Stage1, b: Base, a: Access) -> Answer
+    ensures { λ x. ⌜ x ≡ overlayAnswer s d b a ⌝ }
+{
+    let level = a.level;
+    let right = a.right;
+    let on = s.control.overlay;
+    let applies = b.overlay;
+    let por = s.por;
+    let i = d.poindex;
+    let v = i.slot(register_of(por, level));
+    slot_answer(bit_of(on, level) & bit_of(applies, level), v, right)
+}
