@@ -4,8 +4,10 @@
 // No public function has a `requires`: the fields of a record are read within their widths. The descriptor of a stage that is off is
 // ignored. Permissions are not read.
 ghost use mathlib.Core.Path.{_≡_};
+ghost use Rattle.descriptors.specs.Descriptor.{stage1Of, stage2Of};
+ghost use Rattle.memory.specs.Mair.{mairByte};
 ghost use Rattle.memory.specs.Order.{attributesOf, checkOf};
-use codes::mair::mair_byte;
+ghost use Rattle.memory.specs.Step.{setupWith};
 use codes::mair::stage1_code;
 use codes::mair::valid_byte;
 use codes::stage2::memattr_code;
@@ -18,7 +20,6 @@ use memory::Check;
 use memory::Memory;
 use memory::step::Reached;
 use records::setup::Setup;
-use shareability::reserved_sh;
 use shareability::shareability_code;
 
 // The attribute steps of one access: 8 at stage 1, 8 at stage 2, 9, and then the byte and SH. `fetch` is whether it executes.
@@ -38,14 +39,27 @@ pub fn access_attributes(s: Setup, one: Stage1, two: Stage2, fetch: bool) -> Att
     Attributes::Combined(Memory { byte: byte, sh: sh })
 }
 
-// The refusal that the attribute steps of any access of a leaf meet. It is the same for data and fetches.
-pub fn check_attributes(s: Setup, one: Stage1, two: Stage2) -> Check
-    ensures { λ r. ⌜ r ≡ checkOf s one two ⌝ }
+// The byte that descriptor `d` picks in MAIR or MAIR2, where `w` is the control word.
+fn picked_byte(w: u32, mair: u64, mair2: u64, d: u64) -> u8
+    ensures { λ r. ⌜ r ≡ mairByte (setupWith w mair mair2) (stage1Of d) ⌝ }
 {
-    let c = s.control;
-    let first = c.stage1 & !valid_byte(mair_byte(s, one));
-    let second = c.stage2 & reserved_code(c.fwb, two.memattr % 16);
-    let third = reserved_sh(s, one, two);
+    let i = (d >> 2) % 8 % 8;
+    if ((w >> 12) % 2 == 1) & ((d >> 59) % 2 == 1) {
+        return ((mair2 >> (8 * i)) % 256) as u8;
+    }
+    ((mair >> (8 * i)) % 256) as u8
+}
+
+// The refusal that the attribute steps of any access of a leaf meet, the same for data and fetches: `w` is the control word, `d` and `e` are
+// the descriptors.
+pub fn check_attributes(w: u32, mair: u64, mair2: u64, d: u64, e: u64) -> Check
+    ensures { λ r. ⌜ r ≡ checkOf (setupWith w mair mair2) (stage1Of d) (stage2Of e) ⌝ }
+{
+    let one = (w >> 1) % 2 == 1;
+    let two = (w >> 2) % 2 == 1;
+    let first = one & !valid_byte(picked_byte(w, mair, mair2, d));
+    let second = two & reserved_code((w >> 9) % 2 == 1, ((e >> 2) % 16) as u8 % 16);
+    let third = one & ((d >> 8) % 4 % 4 == 1) | two & ((e >> 8) % 4 % 4 == 1);
     if first | second {
         return Check::Refused(8);
     }

@@ -1,17 +1,17 @@
 // What one leaf asks of the register. Part of the planner. No public function has a `requires`.
 ghost use mathlib.Core.Path.{_≡_};
-ghost use Prim.Native.Nat.{_≤_};
-ghost use Rattle.plan.specs.Register.{firstAccess};
-ghost use Rattle.plan.specs.Plan.{refusalOf, rangePlan, leafPlanOf};
-ghost use Rattle.stages.specs.Overlay.{three};
-ghost use Rattle.plan.specs.Register.{slotNumber};
+ghost use Rattle.records.specs.Setup.{setupFrom};
+ghost use Rattle.plan.specs.Plan.{refusalOf, forbiddenBits, maskPlan, leafPlanOf};
 use checks::answer::Answer;
-use levels::LevelRange;
+use levels::RangeMask;
 use plan::LeafPlan;
 use records::access::Level;
 use records::leaf::LeafRead;
-use records::setup::Setup;
+use records::setup::Words;
 use starts::number_of;
+
+// The slot bits R, X, W of rights whose bits are R, W, X.
+const SLOT_ORDER: [u8; 8] = [0, 1, 4, 5, 2, 3, 6, 7];
 
 // The number of a leaf's refusal.
 pub fn refusal(p: LeafPlan) -> u8
@@ -23,42 +23,37 @@ pub fn refusal(p: LeafPlan) -> u8
     }
 }
 
-// The number of a level's first access, its read.
-fn first_access(l: Level) -> u8
-    ensures { λ r. ⌜ r ≡ firstAccess l ⌝ }
-    ensures { λ r. ⌜ r ≤ 3 ⌝ }
+// The forbidden bits of a level.
+fn forbidden_bits(f: u8, l: Level) -> u8
+    ensures { λ r. ⌜ r ≡ forbiddenBits f l ⌝ }
 {
     match l {
-        Level::Privileged => 0,
-        Level::Unprivileged => 3,
+        Level::Privileged => (f >> 0) % 2 + (f >> 1) % 2 * 2 + (f >> 2) % 2 * 4,
+        Level::Unprivileged => (f >> 3) % 2 + (f >> 4) % 2 * 2 + (f >> 5) % 2 * 4,
     }
 }
 
 // A forbidden right is taken from the slot where the base grants it; where no slot takes it away, no register cures the leaf.
-fn range_plan(forbidden: u8, l: Level, range: LevelRange) -> LeafPlan
-    ensures { λ r. ⌜ r ≡ rangePlan forbidden l range ⌝ }
+fn range_plan(forbidden: u8, l: Level, range: RangeMask) -> LeafPlan
+    ensures { λ r. ⌜ r ≡ maskPlan forbidden l range ⌝ }
 {
     match range {
-        LevelRange::Refused(n) => LeafPlan::Refused(n),
-        LevelRange::Range { place, full, bare } => {
-            let k = first_access(l);
-            let read = (forbidden >> k) % 2 == 1;
-            let write = (forbidden >> (k + 1)) % 2 == 1;
-            let execute = (forbidden >> (k + 2)) % 2 == 1;
-            let taken = slot_number(read & full.read, write & full.write, execute & full.execute);
-            let uncured = read & bare.read | write & bare.write | execute & bare.execute;
+        RangeMask::Refused(n) => LeafPlan::Refused(n),
+        RangeMask::Range { place, full, bare } => {
+            let f = forbidden_bits(forbidden, l);
+            let i = ((f & full) % 8) as usize;
             LeafPlan::Cut {
                 place,
-                taken,
-                uncured,
+                taken: SLOT_ORDER[i],
+                uncured: f & bare != 0,
             }
         }
     }
 }
 
 // 5, then the 6 or 7 that an access of the level meets with 77777777 in place of that level's POR.
-pub fn plan_leaf(s: Setup, l: Level, leaf: &[u8]) -> LeafPlan
-    ensures { λ r. ⌜ r ≡ leafPlanOf s l (now (leaf .entry)) ⌝ }
+pub fn plan_leaf(q: Words, l: Level, leaf: &[u8]) -> LeafPlan
+    ensures { λ r. ⌜ r ≡ leafPlanOf (setupFrom q) l (now (leaf .entry)) ⌝ }
 {
     let read = records::leaf::read_leaf(leaf);
     let LeafRead::Read(f) = read else {
@@ -68,15 +63,9 @@ pub fn plan_leaf(s: Setup, l: Level, leaf: &[u8]) -> LeafPlan
     let Answer::Permitted = check else {
         return LeafPlan::Refused(number_of(check));
     };
-    let one = descriptors::read_stage1(f.stage1);
-    let two = descriptors::read_stage2(f.stage2);
-    let t = descriptors::read_limits(f.limits);
-    range_plan(f.forbidden, l, range::level_range(s, one, two, t, l))
-}
-
-// The slot with these bits.
-pub fn slot_number(read: bool, write: bool, execute: bool) -> u8
-    ensures { λ r. ⌜ r ≡ slotNumber (three read write execute) ⌝ }
-{
-    (read as u8) + 2 * (execute as u8) + 4 * (write as u8)
+    range_plan(
+        f.forbidden,
+        l,
+        range::level_range(q, f.stage1, f.stage2, f.limits, l),
+    )
 }

@@ -1,7 +1,10 @@
 // Indirect permissions: the code at PIIndex in PIR privileged and, with two levels, in PIR unprivileged. Part of the rights layer. No public
 // function has a `requires`.
 ghost use mathlib.Core.Path.{_≡_};
+ghost use Prim.Native.Nat.{_%_};
+ghost use lib.ListN.{getD};
 ghost use Rattle.permissions.specs.Indirect.{codeOf, indirectStep, indirectOf};
+ghost use Rattle.permissions.specs.Masks.{codes};
 use descriptors::index::PIIndex;
 use permissions::Base;
 use permissions::BaseAnswer;
@@ -11,19 +14,26 @@ use records::setup::Control;
 use records::setup::LevelBits;
 use records::setup::LevelRegisters;
 
-// The sixteen base codes as bits: 0 R, 1 X, 2 W, 3 overlays apply, 4 reserved, 5 not judged.
-const CODES: [u8; 16] = [8, 9, 10, 11, 24, 13, 40, 15, 1, 1, 3, 16, 5, 16, 7, 16];
+// The sixteen base codes as bits: 0 R, 1 W, 2 X, 3 overlays apply, 4 reserved, 5 not judged.
+const CODES: [u8; 16] = [8, 9, 12, 13, 24, 11, 40, 15, 1, 1, 5, 16, 3, 16, 7, 16];
+
+// The bits of a base code.
+pub fn code_bits(n: u8) -> u8
+    ensures { λ r. ⌜ r ≡ getD codes (n % 16) 0 ⌝ }
+{
+    let i = (n % 16) as usize;
+    CODES[i]
+}
 
 // The meaning of a base code.
 pub fn base_code(n: u8) -> Code
     ensures { λ r. ⌜ r ≡ codeOf n ⌝ }
 {
-    let i = (n % 16) as usize;
-    let b = CODES[i];
+    let b = code_bits(n);
     Code {
         read: (b >> 0) % 2 == 1,
-        write: (b >> 2) % 2 == 1,
-        execute: (b >> 1) % 2 == 1,
+        write: (b >> 1) % 2 == 1,
+        execute: (b >> 2) % 2 == 1,
         overlay: (b >> 3) % 2 == 1,
         reserved: (b >> 4) % 2 == 1,
         unjudged: (b >> 5) % 2 == 1,

@@ -5,3 +5,4 @@ pub mod List
 pub mod Cases
 pub mod Answers
 pub mod Demands
+pub mod Quick

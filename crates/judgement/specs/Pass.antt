@@ -1,11 +1,13 @@
 -- One pass over a leaf, as the code makes it: private to the layer. The law `agree` of proofs/Agree says that it gives `leafRights` where
 -- no check of the setup refuses. Assumes nothing.
-use Prim.Native.Nat.{ℕ, _+_, _*_, _<_}
+use Prim.Native.Nat.{ℕ, _+_, _*_, _%_, _<_}
 use mathlib.Core.Bool.{Bool, cond}
 use lib.Dec.{eqb}
 use Rattle.descriptors.specs.Descriptor.{stage1Of, stage2Of, limitsOf}
 use Rattle.records.specs.declared.leaf.Leaf.{Leaf}
 use Rattle.records.specs.declared.setup.Setup.{Setup}
+use Rattle.permissions.specs.declared.Mask.{Mask}
+use Rattle.permissions.specs.declared.Mask.the-variants as mask
 use Rattle.checks.specs.Checks.{leafCheck}
 use Rattle.levels.specs.Level.{levelsOf}
 use Rattle.checks.specs.declared.answer.Answer.{Answer}
@@ -36,6 +38,11 @@ checked b (check.Refused n) = cond (eqb b 0) (Rights b) (Refused n)
 abbrev pub levelPart : LevelAnswer → Check → LeafRights
 levelPart (level.Rights r) c = checked (levelByte r) c
 levelPart (level.Refused n) c = Refused n
+
+-- the same of a mask, which has the rights of a level in its low three bits
+abbrev pub maskPart : Mask → Check → LeafRights
+maskPart (mask.Granted m) c = checked (m % 8) c
+maskPart (mask.Refused n) c = Refused n
 
 -- rights below a bound
 abbrev pub Below : ℕ → LeafRights → Type 0

@@ -1,36 +1,24 @@
 // All rights of a leaf, in one pass, with the attribute steps once. Part of the judge. No public function has a `requires`.
 ghost use mathlib.Core.Path.{_≡_};
-ghost use Prim.Native.Nat.{_<_};
-ghost use Rattle.judgement.specs.Pass.{one, levelByte, levelPart, Below, passLevels, afterCheck, leafPass};
+ghost use Rattle.records.specs.Setup.{setupFrom};
+ghost use Rattle.judgement.specs.Pass.{maskPart, Below, join, afterCheck, leafPass};
 use checks::answer::Answer;
 use judgement::LeafRights;
-use levels::LeafLevels;
 use memory::Check;
+use pass::level_mask;
+use permissions::Mask;
+use records::access::Level;
 use records::leaf::Leaf;
-use records::setup::Setup;
-use stages::level::LevelAnswer;
-use stages::level::LevelRights;
-
-fn one(b: bool) -> u8
-    ensures { λ r. ⌜ (r ≡ one b) × (r < 2) ⌝ }
-{
-    if b { 1 } else { 0 }
-}
-
-fn level_byte(r: LevelRights) -> u8
-    ensures { λ x. ⌜ (x ≡ levelByte r) × (x < 8) ⌝ }
-{
-    one(r.read) + 2 * one(r.write) + 4 * one(r.execute)
-}
+use records::setup::Words;
 
 // The rights of a level as bits 0 to 2: the attribute steps are met where some right reaches them.
-fn level_part(a: LevelAnswer, c: Check) -> LeafRights
-    ensures { λ x. ⌜ (x ≡ levelPart a c) × Below 8 x ⌝ }
+fn mask_part(m: Mask, c: Check) -> LeafRights
+    ensures { λ x. ⌜ (x ≡ maskPart m c) × Below 8 x ⌝ }
 {
-    match a {
-        LevelAnswer::Refused(n) => LeafRights::Refused(n),
-        LevelAnswer::Rights(r) => {
-            let b = level_byte(r);
+    match m {
+        Mask::Refused(n) => LeafRights::Refused(n),
+        Mask::Granted(r) => {
+            let b = r % 8;
             match c {
                 Check::Passes => LeafRights::Rights(b),
                 Check::Refused(n) => {
@@ -45,17 +33,15 @@ fn level_part(a: LevelAnswer, c: Check) -> LeafRights
 }
 
 // Both levels, lowest access first; the unprivileged one with two levels.
-fn pass_levels(two: bool, l: LeafLevels, c: Check) -> LeafRights
-    ensures { λ x. ⌜ x ≡ passLevels two l c ⌝ }
+fn join_levels(two: bool, p: Mask, u: Mask, c: Check) -> LeafRights
+    ensures { λ x. ⌜ x ≡ join two (maskPart p c) (maskPart u c) ⌝ }
 {
-    let p = l.privileged;
-    let privileged = level_part(p, c);
+    let privileged = mask_part(p, c);
     let LeafRights::Rights(b) = privileged else {
         return privileged;
     };
     if two {
-        let u = l.unprivileged;
-        let unprivileged = level_part(u, c);
+        let unprivileged = mask_part(u, c);
         let LeafRights::Rights(w) = unprivileged else {
             return unprivileged;
         };
@@ -75,20 +61,25 @@ fn check_refusal(a: Answer) -> LeafRights
 }
 
 // 5, then all rights of both levels at once.
-pub fn leaf_rights(s: Setup, l: Leaf) -> LeafRights
-    ensures { λ x. ⌜ x ≡ leafPass s l ⌝ }
+pub fn leaf_rights(q: Words, l: Leaf) -> LeafRights
+    ensures { λ x. ⌜ x ≡ leafPass (setupFrom q) l ⌝ }
 {
     let check = checks::checks::check_leaf(l);
     let Answer::Permitted = check else {
         return check_refusal(check);
     };
-    let one = descriptors::read_stage1(l.stage1);
-    let two = descriptors::read_stage2(l.stage2);
-    let t = descriptors::read_limits(l.limits);
-    let levels = pass::leaf_levels(s, one, two, t);
-    pass_levels(
-        s.control.two,
-        levels,
-        attributes::check_attributes(s, one, two),
+    let w = q.control;
+    let d = l.stage1;
+    let e = l.stage2;
+    let first = pass::stage1_mask(w, q.pir.privileged, q.pir.unprivileged, d, l.limits);
+    let second = pass::stage2_mask(w, e);
+    let i = descriptors::read_poindex(d);
+    let p = i.slot(q.por.privileged);
+    let u = i.slot(q.por.unprivileged);
+    join_levels(
+        (w >> 0) % 2 == 1,
+        level_mask((w >> 4) % 2 == 1, first, p, second, Level::Privileged),
+        level_mask((w >> 5) % 2 == 1, first, u, second, Level::Unprivileged),
+        attributes::check_attributes(w, q.mair, q.mair2, d, e),
     )
 }

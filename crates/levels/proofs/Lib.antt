@@ -1,3 +1,4 @@
 pub mod Agree
 pub mod Levels
 pub mod Ranges
+pub mod Masks

@@ -54,7 +54,7 @@ with-register s d e t l r = agree (put s l r) d e t l ∙ rw (placed s l r, put-
 pub open-slot : (i : POIndex) → slotAt allOpen i ≡ 7
 open-slot i = at 8 (λ (k : ℕ). nibble allOpen k) (λ (k : ℕ). 7) refl (placeOf i) (omega arith)
 
-shut-slot : (i : POIndex) → slotAt 0 i ≡ 0
+pub shut-slot : (i : POIndex) → slotAt 0 i ≡ 0
 shut-slot i = at 8 (λ (k : ℕ). nibble 0 k) (λ (k : ℕ). 0) refl (placeOf i) (omega arith)
 
 -- the range as the pass has it

@@ -1,3 +1,4 @@
 pub mod Register
 pub mod Level
 pub mod Pass
+pub mod Masks

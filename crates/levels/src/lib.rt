@@ -34,3 +34,9 @@ pub enum LevelRange {
     },
     Refused(u8),
 }
+
+// The same with rights as bits 0 to 2.
+pub enum RangeMask {
+    Range { place: usize, full: u8, bare: u8 },
+    Refused(u8),
+}

@@ -3,16 +3,20 @@
 ghost use mathlib.Core.Path.{_≡_};
 ghost use Prim.Native.Nat.{_+_, _*_, _≤_};
 ghost use lib.ListN.{length};
+ghost use Rattle.records.specs.Setup.{setupFrom};
 ghost use Rattle.judgement.specs.Demands.{ListDemands};
 ghost use Rattle.judgement.specs.List.{walk, numberOf, listOf};
-ghost use Rattle.lists.specs.Walked.{passAt, walkIn, refusedOf};
+ghost use Rattle.lists.specs.Walked.{Tables, passAt, walkIn, refusedOf};
+use attribute_table::attribute_table;
 use checks::answer::Answer;
 use judgement::LeafRights;
 use judgement::Listed;
 use leaves::leaf_rights;
+use quick::quick_rights;
+use quick::slot_table;
 use records::leaf::LeafRead;
-use records::setup::Setup;
-use records::setup::SetupRead;
+use records::setup::Words;
+use records::setup::WordsRead;
 
 // Every leaf was judged, or the first refusal with its leaf's index.
 enum Walked {
@@ -20,27 +24,38 @@ enum Walked {
     Refused(u8, usize),
 }
 
-// The rights of leaf `i`.
-fn pass_at(s: Setup, leaves: &[u8], i: usize) -> LeafRights
-    requires { ⌜ i * 18 + 18 ≤ length (now leaves) ⌝ }
-    ensures { λ r. ⌜ r ≡ passAt s (now (leaves .entry)) i ⌝ }
+// The rights of leaf `i`, where `slots` and `attributes` are the setup's tables: quick where no access is refused.
+fn pass_at(q: Words, slots: &[u8; 16], attributes: &[u8; 32], leaves: &[u8], i: usize) -> LeafRights
+    requires { ⌜ (i * 18 + 18 ≤ length (now leaves)) × Tables q (now slots) (now attributes) ⌝ }
+    ensures { λ r. ⌜ r ≡ passAt (setupFrom q) (now (leaves .entry)) i ⌝ }
 {
     let from = i * 18;
     let to = from + 18;
     let LeafRead::Read(l) = records::leaf::read_leaf(&leaves[from..to]) else {
         return LeafRights::Refused(13);
     };
-    leaf_rights(s, l)
+    let rights = quick_rights(q, slots, attributes, l);
+    if rights < 64 {
+        return LeafRights::Rights(rights);
+    }
+    leaf_rights(q, l)
 }
 
 // Puts the rights of `n` leaves at the start of `buf`, up to the first leaf that is refused.
-fn fill(s: Setup, leaves: &[u8], n: usize, buf: &mut [u8]) -> Walked
-    requires { ⌜ (n * 18 ≤ length (now leaves)) × (n ≤ length (now buf)) ⌝ }
-    ensures { λ r. ⌜ walk (passAt s (now (leaves .entry))) 0 n ≡ walkIn r n (now (buf .exit)) ⌝ }
+fn fill(
+    q: Words,
+    slots: &[u8; 16],
+    attributes: &[u8; 32],
+    leaves: &[u8],
+    n: usize,
+    buf: &mut [u8],
+) -> Walked
+    requires { ⌜ (n * 18 ≤ length (now leaves)) × (n ≤ length (now buf)) × Tables q (now slots) (now attributes) ⌝ }
+    ensures { λ r. ⌜ walk (passAt (setupFrom q) (now (leaves .entry))) 0 n ≡ walkIn r n (now (buf .exit)) ⌝ }
 {
     let mut i: usize = 0;
     while i < n {
-        match pass_at(s, leaves, i) {
+        match pass_at(q, slots, attributes, leaves, i) {
             LeafRights::Rights(b) => {
                 buf[i] = b;
             }
@@ -79,14 +94,13 @@ pub fn list_rights(setup: &[u8], leaves: &[u8], out: &mut [u8]) -> Listed
     ensures out { λ r. ⌜ now (out .exit) ≡ listOf (now (setup .entry)) (now (leaves .entry)) (now (out .entry)) .out ⌝ }
     ensures demands { λ r. ⌜ ListDemands (now (setup .entry)) (now (leaves .entry)) (now (out .entry)) r (now (out .exit)) ⌝ }
 {
-    let SetupRead::Read(s) = records::setup::read_setup(setup) else {
+    let WordsRead::Read(q) = records::setup::read_words(setup) else {
         return Listed::Refused {
             number: 13,
             leaf: 0,
         };
     };
-    let c = s.control;
-    let check = checks::checks::check_setup(c);
+    let check = checks::checks::check_setup(records::setup::read_control(q.control));
     let Answer::Permitted = check else {
         return Listed::Refused {
             number: number_of(check),
@@ -113,7 +127,9 @@ pub fn list_rights(setup: &[u8], leaves: &[u8], out: &mut [u8]) -> Listed
         };
     }
     let mut rights = [0u8; 2048];
-    let walked = fill(s, leaves, n, &mut rights);
+    let slots = slot_table(q.control, q.por.privileged, q.por.unprivileged);
+    let attributes = attribute_table(q.control, q.mair, q.mair2);
+    let walked = fill(q, &slots, &attributes, leaves, n, &mut rights);
     let Walked::All = walked else {
         return refused(walked);
     };

@@ -3,7 +3,7 @@
 use mathlib.Core.Path.{_≡_, refl, sym, _∙_}
 use mathlib.Core.Logic.{_⊎_, inl, inr}
 use native.Mathlib.Omega.{arith}
-use mathlib.Core.Bool.{Bool, true, false, cond}
+use mathlib.Core.Bool.{Bool, true, false, cond, _||_}
 use Prim.Native.Nat.{ℕ}
 use Rattle.memory.specs.Mair.{reservedByte}
 use Rattle.memory.specs.StageTwoType.{reservedMemAttr}
@@ -67,3 +67,15 @@ eight-or-nine s one two fetch n e = go (reservedByte s one) (reservedMemAttr s t
     go false true c m e = inl (cc)
     go false false true m e = inr (cc)
     go false false false m e = let z : _≡_ {A = ℕ} 0 1 = cc in absurd (omega arith)
+
+-- the check by its three tests, of which two give 8
+pub check-is : (s : Setup) (one : Stage1) (two : Stage2) (a b c : Bool)
+    → reservedByte s one ≡ a → reservedMemAttr s two ≡ b → reservedSH s one two ≡ c
+    → checkOf s one two ≡ cond (a || b) (check.Refused 8) (cond c (check.Refused 9) check.Passes)
+unfolding checkOf
+check-is s one two a b c p q r = rw (p, q, r) (go a b)
+  where
+    go : (a b : Bool) → cond a (check.Refused 8) (cond b (check.Refused 8) (cond c (check.Refused 9) check.Passes))
+        ≡ cond (a || b) (check.Refused 8) (cond c (check.Refused 9) check.Passes)
+    go true b = refl
+    go false b = refl

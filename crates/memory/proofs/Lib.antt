@@ -5,3 +5,4 @@ pub mod Steps
 pub mod Codes
 pub mod Cases
 pub mod SourceTables
+pub mod Table

@@ -4,3 +4,4 @@ pub mod Shareability
 pub mod Step
 pub mod Combine
 pub mod Order
+pub mod Table

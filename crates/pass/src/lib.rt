@@ -1,179 +1,125 @@
-// All rights of both levels of a leaf, in one pass. Part of the rights layer. No public function has a `requires`.
+// All rights of a leaf in one pass, as bits of a number. Part of the rights layer. No public function has a `requires`.
+//
+// Words of a setup and descriptors go in as they stand: a number in a register costs less than the fields of a record.
 ghost use mathlib.Core.Path.{_≡_};
-ghost use Rattle.levels.specs.Level.{levelsOf};
-ghost use Rattle.levels.specs.Pass.{fromBase, stage1Pass, stage2Pass, any, overlaid, afterStage2, passLevel, passWith};
-use descriptors::Limits;
-use descriptors::Stage1;
-use descriptors::Stage2;
-use levels::LeafLevels;
-use levels::Stage1Pass;
-use levels::Stage2Pass;
-use permissions::Base;
-use permissions::BaseAnswer;
-use permissions::Rights;
+ghost use mathlib.Core.Bool.{cond};
+ghost use lib.ListN.{getD};
+ghost use Prim.Native.Nat.{_%_};
+ghost use Rattle.descriptors.specs.Bits.{bit};
+ghost use Rattle.descriptors.specs.Descriptor.{stage1Of, stage2Of, limitsOf};
+ghost use Rattle.levels.specs.Masks.{setupWith, stage1Mask, stage2Mask, bitsIn, appliesIn, slotTable, stage2Left, slotLeft, maskWith};
+ghost use Rattle.levels.specs.Pass.{stage1Pass, stage2Pass};
+use permissions::Mask;
 use records::access::Level;
-use records::setup::LevelBits;
-use records::setup::Setup;
-use stage2::stage2_rights;
-use stages::level::LevelAnswer;
-use stages::level::LevelRights;
-use stages::level::bit_of;
-use stages::level::level_in;
-use stages::level::slot_rights;
 
-const EVERYTHING: Rights = Rights {
-    pr: true,
-    pw: true,
-    px: true,
-    ur: true,
-    uw: true,
-    ux: true,
-};
+// Stage 2's rights by S2AP and XN.
+const STAGE2: [u8; 16] = [36, 45, 54, 63, 32, 41, 50, 59, 0, 9, 18, 27, 4, 13, 22, 31];
 
-fn from_base(b: BaseAnswer) -> Stage1Pass
-    ensures { λ x. ⌜ x ≡ fromBase b ⌝ }
+// What slots 0 to 7 grant: their bits are R, X, W.
+const SLOTS: [u8; 8] = [0, 1, 4, 5, 2, 3, 6, 7];
+
+// Stage 1 up to the overlay: `w` is the control word, `p` and `u` are the PIRs, `d` is the descriptor and `t` the limits. Bits 6 and 7 of the
+// rights tell the levels where overlays apply.
+pub fn stage1_mask(w: u32, p: u64, u: u64, d: u64, t: u8) -> Mask
+    ensures { λ r. ⌜ r ≡ stage1Mask (stage1Pass (setupWith w p u) (stage1Of d) (limitsOf t)) ⌝ }
 {
-    match b {
-        BaseAnswer::Granted(g) => Stage1Pass::Granted(g),
-        BaseAnswer::Refused(n) => Stage1Pass::Refused(n),
-    }
-}
-
-pub fn stage1_pass(s: Setup, d: Stage1, t: Limits) -> Stage1Pass
-    ensures { λ x. ⌜ x ≡ stage1Pass s d t ⌝ }
-{
-    let c = s.control;
-    if c.stage1 {
-        if d.valid & d.af {
-            if stage1::dirty_state(c, d) {
-                return Stage1Pass::Refused(7);
+    if (w >> 1) % 2 == 1 {
+        if ((d >> 0) % 2 == 1) & ((d >> 10) % 2 == 1) {
+            if (w >> 3) % 2 == 1 {
+                if (d >> 7) % 2 == 1 {
+                    return Mask::Refused(7);
+                }
+                let i = descriptors::read_piindex(d);
+                return masks::indirect_mask((w >> 0) % 2 == 1, i.code(p), i.code(u));
             }
-            return from_base(base::base_rights(s, d, t));
-        }
-        return Stage1Pass::Nothing;
-    }
-    Stage1Pass::Granted(Base {
-        rights: EVERYTHING,
-        overlay: LevelBits {
-            privileged: false,
-            unprivileged: false,
-        },
-    })
-}
-
-pub fn stage2_pass(on: bool, d: Stage2) -> Stage2Pass
-    ensures { λ x. ⌜ x ≡ stage2Pass on d ⌝ }
-{
-    if on {
-        if d.valid & d.af {
-            if d.bit51 {
-                return Stage2Pass::Refused(7);
+            if (d >> 51) % 2 == 1 {
+                return Mask::Refused(7);
             }
-            return Stage2Pass::Granted(stage2_rights(d));
+            return Mask::Granted(masks::direct_mask(w, d, t) | 192);
         }
-        return Stage2Pass::Nothing;
+        return Mask::Granted(0);
     }
-    Stage2Pass::Granted(EVERYTHING)
+    Mask::Granted(63)
 }
 
-fn any(r: LevelRights) -> bool
-    ensures { λ x. ⌜ x ≡ any r ⌝ }
+// Stage 2: `w` is the control word, `e` is the descriptor.
+pub fn stage2_mask(w: u32, e: u64) -> Mask
+    ensures { λ r. ⌜ r ≡ stage2Mask (stage2Pass (bit w 2) (stage2Of e)) ⌝ }
 {
-    r.read | r.write | r.execute
+    if (w >> 2) % 2 == 1 {
+        if ((e >> 0) % 2 == 1) & ((e >> 10) % 2 == 1) {
+            if (e >> 51) % 2 == 1 {
+                return Mask::Refused(7);
+            }
+            let i = ((e >> 6) % 4 + (e >> 53) % 4 * 4) as usize;
+            return Mask::Granted(STAGE2[i]);
+        }
+        return Mask::Granted(0);
+    }
+    Mask::Granted(63)
 }
 
-// The rights that an overlay slot leaves.
-fn overlaid(on: bool, v: LevelRights, r: LevelRights) -> LevelRights
-    ensures { λ x. ⌜ x ≡ overlaid on v r ⌝ }
+// The rights of a level among six.
+fn bits_in(m: u8, l: Level) -> u8
+    ensures { λ r. ⌜ r ≡ bitsIn m l ⌝ }
 {
-    LevelRights {
-        read: r.read & (!on | v.read),
-        write: r.write & (!on | v.write),
-        execute: r.execute & (!on | v.execute),
+    match l {
+        Level::Privileged => m % 8,
+        Level::Unprivileged => (m >> 3) % 8,
+    }
+}
+
+// Overlays apply to the rights of a level.
+fn applies_in(m: u8, l: Level) -> bool
+    ensures { λ r. ⌜ r ≡ appliesIn m l ⌝ }
+{
+    match l {
+        Level::Privileged => (m >> 6) % 2 == 1,
+        Level::Unprivileged => (m >> 7) % 2 == 1,
     }
 }
 
 // The rights that stage 2 leaves.
-fn after_stage2(r: LevelRights, t: Stage2Pass, l: Level) -> LevelAnswer
-    ensures { λ x. ⌜ x ≡ afterStage2 r t l ⌝ }
+fn stage2_left(r: u8, t: Mask, l: Level) -> Mask
+    ensures { λ x. ⌜ x ≡ stage2Left r t l ⌝ }
 {
     match t {
-        Stage2Pass::Granted(g) => {
-            let h = level_in(g, l);
-            LevelAnswer::Rights(LevelRights {
-                read: r.read & h.read,
-                write: r.write & h.write,
-                execute: r.execute & h.execute,
-            })
-        }
-        Stage2Pass::Nothing => LevelAnswer::Rights(LevelRights {
-            read: false,
-            write: false,
-            execute: false,
-        }),
-        Stage2Pass::Refused(n) => {
-            if any(r) {
-                return LevelAnswer::Refused(n);
+        Mask::Granted(g) => Mask::Granted(r & bits_in(g, l)),
+        Mask::Refused(n) => {
+            if r == 0 {
+                return Mask::Granted(0);
             }
-            LevelAnswer::Rights(LevelRights {
-                read: false,
-                write: false,
-                execute: false,
-            })
+            Mask::Refused(n)
         }
     }
 }
 
-fn pass_level(r: LevelRights, on: bool, v: u8, t: Stage2Pass, l: Level) -> LevelAnswer
-    ensures { λ x. ⌜ x ≡ passLevel r on v t l ⌝ }
+// What slot `v` grants; everything where no overlay applies.
+pub fn slot_bits(on: bool, v: u8) -> u8
+    ensures { λ r. ⌜ r ≡ cond on (getD slotTable (v % 8) 0) 7 ⌝ }
 {
-    if on & (8 <= v) & any(r) {
-        return LevelAnswer::Refused(6);
+    let i = (v % 8) as usize;
+    if on {
+        return SLOTS[i];
     }
-    after_stage2(overlaid(on, slot_rights(v), r), t, l)
+    7
 }
 
-// The level's rights with slot `v`.
-pub fn pass_with(o: LevelBits, one: Stage1Pass, v: u8, t: Stage2Pass, l: Level) -> LevelAnswer
-    ensures { λ x. ⌜ x ≡ passWith o one v t l ⌝ }
+fn slot_left(r: u8, on: bool, v: u8, t: Mask, l: Level) -> Mask
+    ensures { λ x. ⌜ x ≡ slotLeft r on v t l ⌝ }
 {
-    match one {
-        Stage1Pass::Granted(b) => {
-            let r = b.rights;
-            let applies = b.overlay;
-            pass_level(level_in(r, l), bit_of(o, l) & bit_of(applies, l), v, t, l)
-        }
-        Stage1Pass::Nothing => LevelAnswer::Rights(LevelRights {
-            read: false,
-            write: false,
-            execute: false,
-        }),
-        Stage1Pass::Refused(n) => LevelAnswer::Refused(n),
+    if on & (8 <= v) & (r != 0) {
+        return Mask::Refused(6);
     }
+    stage2_left(r & slot_bits(on, v), t, l)
 }
 
-// The rights of both levels: a right is on exactly where `rights::access::judge_stages` permits its access.
-pub fn leaf_levels(s: Setup, one: Stage1, two: Stage2, t: Limits) -> LeafLevels
-    ensures { λ x. ⌜ x ≡ levelsOf s one two t ⌝ }
+// The level's rights with slot `v`, from both stages; `on` is whether that level's overlay is.
+pub fn level_mask(on: bool, first: Mask, v: u8, t: Mask, l: Level) -> Mask
+    ensures { λ x. ⌜ x ≡ maskWith on first v t l ⌝ }
 {
-    let o = s.control.overlay;
-    let i = one.poindex;
-    let first = stage1_pass(s, one, t);
-    let second = stage2_pass(s.control.stage2, two);
-    LeafLevels {
-        privileged: pass_with(
-            o,
-            first,
-            i.slot(s.por.privileged),
-            second,
-            Level::Privileged,
-        ),
-        unprivileged: pass_with(
-            o,
-            first,
-            i.slot(s.por.unprivileged),
-            second,
-            Level::Unprivileged,
-        ),
+    match first {
+        Mask::Granted(m) => slot_left(bits_in(m, l), on & applies_in(m, l), v, t, l),
+        Mask::Refused(n) => Mask::Refused(n),
     }
 }

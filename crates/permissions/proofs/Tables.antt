@@ -1,7 +1,6 @@
 -- The tables of Direct and Indirect as the code has them: the formula for AP, and the bits of the sixteen base codes. Assumes nothing.
 use mathlib.Core.Path.{_≡_, refl}
 use mathlib.Core.Bool.{Bool, true, false, not, _&&_}
-use mathlib.Core.List.{List, [], _∷_}
 use Prim.Native.Nat.{ℕ, _%_}
 use native.Mathlib.Omega.{arith}
 use lib.Dec.{ltb}
@@ -10,6 +9,7 @@ use Rattle.descriptors.specs.Bits.{bit}
 use Rattle.records.proofs.Cases.{at}
 use Rattle.permissions.specs.Direct.{six, ap}
 use Rattle.permissions.specs.Indirect.{meanings, fields, reserved, codeOf}
+use Rattle.permissions.specs.Masks.{codes}
 use Rattle.permissions.specs.declared.Code.{Code}
 
 -- AP's table as a formula
@@ -20,12 +20,9 @@ ap-is false true = refl
 ap-is true false = refl
 ap-is true true = refl
 
--- the code's constant, and the fields that the bits of an entry stand for
-abbrev pub codes : List ℕ
-codes = 8 ∷ 9 ∷ 10 ∷ 11 ∷ 24 ∷ 13 ∷ 40 ∷ 15 ∷ 1 ∷ 1 ∷ 3 ∷ 16 ∷ 5 ∷ 16 ∷ 7 ∷ 16 ∷ []
-
+-- the fields that the bits of an entry stand for
 abbrev pub fromBits : ℕ → Code
-fromBits b = record { read = bit b 0; write = bit b 2; execute = bit b 1; overlay = bit b 3; reserved = bit b 4; unjudged = bit b 5 }
+fromBits b = record { read = bit b 0; write = bit b 1; execute = bit b 2; overlay = bit b 3; reserved = bit b 4; unjudged = bit b 5 }
 
 -- the table's rule, checked once over all entries
 pub code-is : (n : ℕ) → fromBits (getD codes (n % 16) 0) ≡ codeOf n

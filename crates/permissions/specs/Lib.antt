@@ -1,3 +1,4 @@
 pub mod Direct
 pub mod Base
 pub mod Indirect
+pub mod Masks

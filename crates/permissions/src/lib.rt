@@ -24,6 +24,12 @@ pub enum BaseAnswer {
     Refused(u8),
 }
 
+// Rights as bits, or a refusal's number.
+pub enum Mask {
+    Granted(u8),
+    Refused(u8),
+}
+
 // What a base code means.
 pub struct Code {
     pub read: bool,

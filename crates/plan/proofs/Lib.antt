@@ -9,3 +9,4 @@ pub mod Starts
 pub mod Theorem
 pub mod Consequences
 pub mod Bounds
+pub mod Masks

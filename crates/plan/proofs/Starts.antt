@@ -56,6 +56,32 @@ module _ (len : ℕ) where
   unfolding startOf
   fits bytes lv t k e = by-setup lv (readSetup bytes) t k e
 
+-- the setup to plan for is the one that was read
+module _ (s t : Setup) (k : Level) where
+  same-on : (l : Level) (on whole : Bool) → cond on (cond whole (Leaves s l) (Refused 11)) (Refused 12) ≡ Leaves t k → s ≡ t
+  same-on l true true e = cc
+  same-on l true false e = let z : _≡_ {A = ℕ} 0 1 = cc in absurd (omega arith)
+  same-on l false whole e = let z : _≡_ {A = ℕ} 0 1 = cc in absurd (omega arith)
+
+  same-level : (len : ℕ) (x : LevelCheck) → startLevel s len x ≡ Leaves t k → s ≡ t
+  same-level len (level.Known l) e = same-on l (s .control .stage1 && bitOf (s .control .overlay) l) (eqb (len % 18) 0 && leb (len / 18) 2048) e
+  same-level len (level.Refused n) e = let z : _≡_ {A = ℕ} 0 1 = cc in absurd (omega arith)
+
+  same-check : (a : Answer) (x : Start) → (x ≡ Leaves t k → s ≡ t) → after a Refused x ≡ Leaves t k → s ≡ t
+  same-check answer.Permitted x f e = f e
+  same-check (answer.Fault g) x f e = let z : _≡_ {A = ℕ} 0 1 = cc in absurd (omega arith)
+  same-check (answer.Refused n) x f e = let z : _≡_ {A = ℕ} 0 1 = cc in absurd (omega arith)
+
+  pub same-setup : (bytes : List ℕ) (lv len : ℕ) → readSetup bytes ≡ setup.Read s → startOf bytes lv len ≡ Leaves t k → s ≡ t
+  unfolding startOf
+  same-setup bytes lv len r e =
+      same-check (setupCheck (s .control)) (startLevel s len (levelCheck lv)) (same-level len (levelCheck lv)) (rw r at e)
+
+-- a setup that is not read
+pub not-read : (bytes : List ℕ) (lv len n : ℕ) → readSetup bytes ≡ setup.Refused n → startOf bytes lv len ≡ Refused 13
+unfolding startOf
+not-read bytes lv len n e = rw e
+
 -- a list that is accepted is gone over
 pub accepted-starts : (bytes : List ℕ) (lv : ℕ) (ls : List ℕ) (s : Setup) (l : Level) → Accepted bytes lv ls s l
     → startOf bytes lv (length ls) ≡ Leaves s l

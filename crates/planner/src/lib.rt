@@ -6,6 +6,7 @@
 ghost use mathlib.Core.Path.{_≡_};
 ghost use Prim.Native.Nat.{_/_, _%_, _≤_};
 ghost use lib.ListN.{length};
+ghost use Rattle.records.specs.Setup.{setupFrom};
 ghost use Rattle.plan.specs.Plan.{planLeaves, planOf, valuesOf};
 ghost use Rattle.plan.specs.Demand3.{Demanded};
 use crate::masks::cut_mask;
@@ -17,15 +18,16 @@ use plan::LeafPlan;
 use plan::Plan;
 use plan::Start;
 use records::access::Level;
-use records::setup::Setup;
+use records::setup::Words;
+use records::setup::WordsRead;
 use starts::begin;
 
 mod masks;
 
 // One pass over the list: each leaf's 5, 6 or 7, then 10, then the register.
-fn plan_leaves(s: Setup, l: Level, leaves: &[u8]) -> Plan
+fn plan_leaves(q: Words, l: Level, leaves: &[u8]) -> Plan
     requires { ⌜ (length (now leaves) % 18 ≡ 0) × (length (now leaves) / 18 ≤ 2048) ⌝ }
-    ensures { λ r. ⌜ r ≡ planLeaves s l (now (leaves .entry)) ⌝ }
+    ensures { λ r. ⌜ r ≡ planLeaves (setupFrom q) l (now (leaves .entry)) ⌝ }
 {
     let n = leaves.len() / 18;
     let mut masks = [7u8; 8];
@@ -33,7 +35,7 @@ fn plan_leaves(s: Setup, l: Level, leaves: &[u8]) -> Plan
     let mut i = 0;
     while i < n {
         let a = i * 18;
-        let plan = plan_leaf(s, l, &leaves[a..a + 18]);
+        let plan = plan_leaf(q, l, &leaves[a..a + 18]);
         let LeafPlan::Cut {
             place,
             taken,
@@ -64,9 +66,15 @@ pub fn plan_level(setup: &[u8], level: u64, leaves: &[u8]) -> Plan
     ensures { λ r. ⌜ valuesOf r ≡ valuesOf (planOf (now (setup .entry)) level (now (leaves .entry))) ⌝ }
     ensures { λ r. ⌜ Demanded (now (setup .entry)) level (now (leaves .entry)) r ⌝ }
 {
+    let WordsRead::Read(q) = records::setup::read_words(setup) else {
+        return Plan::Refused {
+            number: 13,
+            leaf: 0,
+        };
+    };
     let start = begin(setup, level, leaves.len());
     match start {
         Start::Refused(number) => Plan::Refused { number, leaf: 0 },
-        Start::Leaves { setup: s, level: l } => plan_leaves(s, l, leaves),
+        Start::Leaves { setup: _, level: l } => plan_leaves(q, l, leaves),
     }
 }

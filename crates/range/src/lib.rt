@@ -1,44 +1,55 @@
 // What the planner asks of a leaf at a level. Part of the rights layer. No public function has a `requires`.
 ghost use mathlib.Core.Path.{_≡_};
-ghost use Rattle.levels.specs.Level.{rangeFrom, rangeOf};
-use descriptors::Limits;
-use descriptors::Stage1;
-use descriptors::Stage2;
-use levels::LevelRange;
-use pass::pass_with;
-use pass::stage1_pass;
-use pass::stage2_pass;
+ghost use Rattle.descriptors.specs.Descriptor.{stage1Of, stage2Of, limitsOf};
+ghost use Rattle.records.specs.Setup.{controlOf, setupFrom};
+ghost use Rattle.stages.specs.Overlay.{bitOf};
+ghost use Rattle.levels.specs.Level.{rangeOf};
+ghost use Rattle.levels.specs.Masks.{rangeMask, rangeWith};
+use levels::RangeMask;
+use pass::level_mask;
+use permissions::Mask;
 use records::access::Level;
-use records::setup::Setup;
-use stages::level::LevelAnswer;
+use records::setup::Words;
 
-fn range_from(place: usize, full: LevelAnswer, bare: LevelAnswer) -> LevelRange
-    ensures { λ x. ⌜ x ≡ rangeFrom place full bare ⌝ }
+fn range_with(place: usize, full: Mask, bare: Mask) -> RangeMask
+    ensures { λ x. ⌜ x ≡ rangeWith place full bare ⌝ }
 {
     match full {
-        LevelAnswer::Refused(n) => LevelRange::Refused(n),
-        LevelAnswer::Rights(f) => match bare {
-            LevelAnswer::Rights(b) => LevelRange::Range {
+        Mask::Refused(n) => RangeMask::Refused(n),
+        Mask::Granted(f) => match bare {
+            Mask::Granted(b) => RangeMask::Range {
                 place,
                 full: f,
                 bare: b,
             },
-            LevelAnswer::Refused(n) => LevelRange::Refused(n),
+            Mask::Refused(n) => RangeMask::Refused(n),
         },
     }
 }
 
-// The refusal that an access of the level meets with 77777777 in place of that level's POR, or the range of its rights.
-pub fn level_range(s: Setup, one: Stage1, two: Stage2, t: Limits, l: Level) -> LevelRange
-    ensures { λ x. ⌜ x ≡ rangeOf s one two t l ⌝ }
+// A level's overlay is on, where `w` is the control word.
+fn overlay_on(w: u32, l: Level) -> bool
+    ensures { λ r. ⌜ r ≡ bitOf (controlOf w .overlay) l ⌝ }
 {
-    let o = s.control.overlay;
-    let i = one.poindex;
-    let first = stage1_pass(s, one, t);
-    let second = stage2_pass(s.control.stage2, two);
-    range_from(
+    match l {
+        Level::Privileged => (w >> 4) % 2 == 1,
+        Level::Unprivileged => (w >> 5) % 2 == 1,
+    }
+}
+
+// The refusal that an access of the level meets with 77777777 in place of that level's POR, or the range of its rights: `d` and `e` are the
+// descriptors, `t` is the limits.
+pub fn level_range(q: Words, d: u64, e: u64, t: u8, l: Level) -> RangeMask
+    ensures { λ x. ⌜ x ≡ rangeMask (rangeOf (setupFrom q) (stage1Of d) (stage2Of e) (limitsOf t) l) ⌝ }
+{
+    let w = q.control;
+    let on = overlay_on(w, l);
+    let first = pass::stage1_mask(w, q.pir.privileged, q.pir.unprivileged, d, t);
+    let second = pass::stage2_mask(w, e);
+    let i = descriptors::read_poindex(d);
+    range_with(
         i.place(),
-        pass_with(o, first, 7, second, l),
-        pass_with(o, first, 0, second, l),
+        level_mask(on, first, 7, second, l),
+        level_mask(on, first, 0, second, l),
     )
 }

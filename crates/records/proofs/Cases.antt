@@ -1,10 +1,10 @@
 -- Laws that turn one computation over a finite domain into the equation at each of its values: all numbers below k, both truth
--- values, and all lists of n truth values. A table's rule and a rule over truth values are proved by them, with `refl`. Assumes nothing.
+-- values, and all lists of n truth values or binary digits. A table's rule and a rule over truth values are proved by them, with `refl`. Assumes nothing.
 use mathlib.Core.Path.{_≡_}
 use mathlib.Core.Bool.{Bool, true, false}
 use mathlib.Core.List.{List, [], _∷_}
-use Prim.Native.Nat.{ℕ, zero, suc, _<_}
-use native.Mathlib.Nat.{le-of-suc-le-suc, not-suc-le-zero}
+use Prim.Native.Nat.{ℕ, zero, suc, _%_, _<_}
+use native.Mathlib.Nat.{le-of-suc-le-suc, not-suc-le-zero, mod-lt, zero-lt-suc}
 use lib.ListN.{length}
 
 -- f at 0, 1, .. up to k - 1
@@ -56,3 +56,27 @@ pub each : {A : Type 0} (l : List Bool) (f g : List Bool → A) → tree (length
 each [] f g e = same-value e
 each (true ∷ l) f g e = each l (λ (m : List Bool). f (true ∷ m)) (λ (m : List Bool). g (true ∷ m)) (same-left e)
 each (false ∷ l) f g e = each l (λ (m : List Bool). f (false ∷ m)) (λ (m : List Bool). g (false ∷ m)) (same-right e)
+
+-- binary digits of numbers, one for each
+abbrev pub digits : List ℕ → List ℕ
+digits [] = []
+digits (n ∷ l) = n % 2 ∷ digits l
+
+-- the values of a function at all lists of n binary digits
+abbrev pub digitTree : {A : Type 0} → ℕ → (List ℕ → A) → Tree A
+digitTree zero f = value (f [])
+digitTree (suc n) f = fork (digitTree n (λ (l : List ℕ). f (0 ∷ l))) (digitTree n (λ (l : List ℕ). f (1 ∷ l)))
+
+digit : {A : Type 0} (f g : ℕ → A) → f 0 ≡ g 0 → f 1 ≡ g 1 → (n : ℕ) → n < 2 → f n ≡ g n
+digit f g p q zero h = p
+digit f g p q (suc zero) h = q
+digit f g p q (suc (suc n)) h = absurd (not-suc-le-zero (le-of-suc-le-suc (le-of-suc-le-suc h)))
+
+-- two functions that agree at all lists of as many binary digits as l has agree at the digits of l
+pub each-digit : {A : Type 0} (l : List ℕ) (f g : List ℕ → A) → digitTree (length l) f ≡ digitTree (length l) g → f (digits l) ≡ g (digits l)
+each-digit [] f g e = same-value e
+each-digit (n ∷ l) f g e =
+    digit (λ (m : ℕ). f (m ∷ digits l)) (λ (m : ℕ). g (m ∷ digits l))
+    (each-digit l (λ (k : List ℕ). f (0 ∷ k)) (λ (k : List ℕ). g (0 ∷ k)) (same-left e))
+    (each-digit l (λ (k : List ℕ). f (1 ∷ k)) (λ (k : List ℕ). g (1 ∷ k)) (same-right e))
+    (n % 2) (mod-lt n (zero-lt-suc 1))

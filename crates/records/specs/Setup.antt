@@ -10,6 +10,9 @@ use Rattle.records.specs.declared.setup.Control.{Control}
 use Rattle.records.specs.declared.setup.Setup.{Setup}
 use Rattle.records.specs.declared.setup.SetupRead.{SetupRead}
 use Rattle.records.specs.declared.setup.SetupRead.the-variants.{Read, Refused}
+use Rattle.records.specs.declared.setup.Words.{Words}
+use Rattle.records.specs.declared.setup.WordsRead.{WordsRead}
+use Rattle.records.specs.declared.setup.WordsRead.the-variants as words
 
 -- the control bits of a control word by name; `above`: a bit above 12 is set
 unfoldable pub controlOf : ℕ → Control
@@ -29,16 +32,27 @@ controlOf w = record {
   above = leb (2 ^ 13) w;
 }
 
--- the setup of 52 bytes: the control word, then MAIR, MAIR2, PIR privileged and unprivileged, POR privileged and unprivileged
-unfoldable pub setupOf : List ℕ → Setup
-setupOf s = record {
-  control = controlOf (le32 s 0);
+-- 52 bytes: the control word, then MAIR, MAIR2, PIR privileged and unprivileged, POR privileged and unprivileged
+unfoldable pub wordsOf : List ℕ → Words
+wordsOf s = record {
+  control = le32 s 0;
   mair = le64 s 4;
   mair2 = le64 s 12;
   pir = record { privileged = le64 s 20; unprivileged = le64 s 28 };
   por = record { privileged = le64 s 36; unprivileged = le64 s 44 };
 }
 
+-- the setup of these words: the control bits by name, and the registers
+unfoldable pub setupFrom : Words → Setup
+setupFrom w = record { control = controlOf (w .control); mair = w .mair; mair2 = w .mair2; pir = w .pir; por = w .por }
+
+-- the setup of 52 bytes
+unfoldable pub setupOf : List ℕ → Setup
+setupOf s = setupFrom (wordsOf s)
+
 -- refusal 13 for a setup: it is not 52 bytes long
 unfoldable pub readSetup : List ℕ → SetupRead
 readSetup s = cond (eqb (length s) 52) (Read (setupOf s)) (Refused 13)
+
+unfoldable pub readWords : List ℕ → WordsRead
+readWords s = cond (eqb (length s) 52) (words.Read (wordsOf s)) (words.Refused 13)

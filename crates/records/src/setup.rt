@@ -2,7 +2,7 @@
 ghost use mathlib.Core.Path.{_≡_};
 ghost use Prim.Native.Nat.{_<_};
 ghost use lib.ListN.{length};
-ghost use Rattle.records.specs.Setup.{controlOf, setupOf, readSetup};
+ghost use Rattle.records.specs.Setup.{wordsOf, readWords, controlOf, setupFrom, readSetup};
 use crate::number::half;
 use crate::number::word;
 
@@ -16,6 +16,21 @@ pub struct LevelBits {
 pub struct LevelRegisters {
     pub privileged: u64,
     pub unprivileged: u64,
+}
+
+// A setup as it stands: the control word and six registers.
+pub struct Words {
+    pub control: u32,
+    pub mair: u64,
+    pub mair2: u64,
+    pub pir: LevelRegisters,
+    pub por: LevelRegisters,
+}
+
+// The words of a setup, or a refusal's number.
+pub enum WordsRead {
+    Read(Words),
+    Refused(u8),
 }
 
 // The control bits, 0 to 12 in order, and whether one above 12 is set.
@@ -76,12 +91,12 @@ pub fn read_control(w: u32) -> Control
     }
 }
 
-fn decoded(s: &[u8]) -> Setup
+fn words_of(s: &[u8]) -> Words
     requires { ⌜ length (now s) ≡ 52 ⌝ }
-    ensures { λ r. ⌜ r ≡ setupOf (now (s .entry)) ⌝ }
+    ensures { λ r. ⌜ r ≡ wordsOf (now (s .entry)) ⌝ }
 {
-    Setup {
-        control: read_control(half(s, 0) as u32),
+    Words {
+        control: half(s, 0) as u32,
         mair: word(s, 4),
         mair2: word(s, 12),
         pir: LevelRegisters {
@@ -95,12 +110,36 @@ fn decoded(s: &[u8]) -> Setup
     }
 }
 
+// The words of a setup of 52 bytes, or 13.
+pub fn read_words(s: &[u8]) -> WordsRead
+    ensures { λ r. ⌜ r ≡ readWords (now (s .entry)) ⌝ }
+{
+    if s.len() != 52 {
+        return WordsRead::Refused(13);
+    }
+    WordsRead::Read(words_of(s))
+}
+
+fn setup_from(w: Words) -> Setup
+    ensures { λ r. ⌜ r ≡ setupFrom w ⌝ }
+{
+    let pir = w.pir;
+    let por = w.por;
+    Setup {
+        control: read_control(w.control),
+        mair: w.mair,
+        mair2: w.mair2,
+        pir,
+        por,
+    }
+}
+
 // The setup of 52 bytes, or 13.
 pub fn read_setup(s: &[u8]) -> SetupRead
     ensures { λ r. ⌜ r ≡ readSetup (now (s .entry)) ⌝ }
 {
-    if s.len() != 52 {
+    let WordsRead::Read(w) = read_words(s) else {
         return SetupRead::Refused(13);
-    }
-    SetupRead::Read(decoded(s))
+    };
+    SetupRead::Read(setup_from(w))
 }

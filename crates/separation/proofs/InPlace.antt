@@ -7,7 +7,7 @@ use lib.ListN.{length, getD}
 use borrow.Author.Tests.{eq-eqb}
 use Rattle.records.proofs.Cases.{upto}
 use Rattle.records.specs.Bytes.{little, le64}
-use Rattle.records.specs.Setup.{setupOf, readSetup}
+use Rattle.records.specs.Setup.{wordsOf, setupFrom, setupOf, readSetup}
 use Rattle.records.specs.declared.access.Level.{Level}
 use Rattle.records.specs.declared.access.Level.the-variants.{Privileged, Unprivileged}
 use Rattle.records.specs.declared.setup.LevelRegisters.{LevelRegisters}
@@ -32,7 +32,7 @@ abbrev with-pors : (ℕ → ℕ) → LevelRegisters → Setup
 with-pors f p = let s = setupOf (upto 52 f) in record { control = s .control; mair = s .mair; mair2 = s .mair2; pir = s .pir; por = p }
 
 in-place : (f : ℕ → ℕ) (l : Level) (r : ℕ) → r < 2 ^ 64 → setupOf (withPor (upto 52 f) l r) ≡ put (setupOf (upto 52 f)) l r
-unfolding setupOf le64
+unfolding setupOf setupFrom wordsOf le64
 in-place f Privileged r h =
     ap (λ (q : ℕ). with-pors f (record { privileged = q; unprivileged = setupOf (upto 52 f) .por .unprivileged })) (read-back r h)
 in-place f Unprivileged r h =

@@ -1,6 +1,10 @@
 -- `plan_leaf` meets its contract: the first refusal stands. Assumes nothing.
+use Rattle.descriptors.specs.Descriptor.{stage1Of, stage2Of, limitsOf}
+use Rattle.records.specs.Setup.{setupFrom}
+use Rattle.levels.specs.Level.{rangeOf}
 use Rattle.plan.specs.Plan.{leafPlanOf}
 use Rattle.plan.specs.declared.LeafPlan.the-variants.{Refused}
+use Rattle.plan.proofs.Masks.{mask-plan}
 use Rattle.plan.proofs.Steps.{stands}
 use borrow.Author.Needs.{needs}
 use Rattle.cuts.proofs.plan_leaf.Statement.{statement}
@@ -32,15 +36,6 @@ returns-2 : tie.Need-returns-2
 unfolding leafPlanOf
 returns-2 c = rw (← (c .before .before .before .before .before .before .read-leaf .ensures), c .before .before .before .before .read .given .1, ← (c .before .before .check-leaf .ensures), c .number-of .ensures) (stands (c .before .before .check-leaf .result) Refused _ (c .before .match2 .keys2))
 
-read-stage1-requires : tie.Need-read-stage1-requires
-read-stage1-requires c κs = search needs
-
-read-stage2-requires : tie.Need-read-stage2-requires
-read-stage2-requires c κs = search needs
-
-read-limits-requires : tie.Need-read-limits-requires
-read-limits-requires c κs = search needs
-
 level-range-requires : tie.Need-level-range-requires
 level-range-requires c κs = search needs
 
@@ -49,7 +44,7 @@ range-plan-requires c κs = search needs
 
 returns-3 : tie.Need-returns-3
 unfolding leafPlanOf
-returns-3 c = rw (← (c .before .before .before .before .before .before .before .before .before .before .before .read-leaf .ensures), c .before .before .before .before .before .before .before .before .before .read .given .1, ← (c .before .before .before .before .before .before .before .check-leaf .ensures), c .before .before .before .before .before .enum-told2 .given .1, c .range-plan .ensures, c .before .level-range .ensures, c .before .before .read-limits .ensures, c .before .before .before .read-stage2 .ensures, c .before .before .before .before .read-stage1 .ensures)
+returns-3 c = rw (← (c .before .before .before .before .before .before .before .before .read-leaf .ensures), c .before .before .before .before .before .before .read .given .1, ← (c .before .before .before .before .check-leaf .ensures), c .before .before .enum-told2 .given .1, c .range-plan .ensures, c .before .level-range .ensures) (let a = c .before .before .before .before .before .before .before .before .before .before .args in let f = c .before .before .before .before .before .before .read .given .0 .0 in mask-plan (f .forbidden) (a .l) (rangeOf (setupFrom (a .q)) (stage1Of (f .stage1)) (stage2Of (f .stage2)) (limitsOf (f .limits)) (a .l)))
 
 pub plan-leaf-spec : {M : Type 1} → statement M
 plan-leaf-spec =
@@ -63,9 +58,6 @@ plan-leaf-spec =
     enum-told-2
     number-of-requires
     returns-2
-    read-stage1-requires
-    read-stage2-requires
-    read-limits-requires
     level-range-requires
     range-plan-requires
     returns-3)

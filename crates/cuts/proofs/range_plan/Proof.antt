@@ -9,32 +9,20 @@ enum-known-range c = search needs
 enum-known-range-2 : tie.Need-enum-known-range-2
 enum-known-range-2 c = search needs
 
-first-access-requires : tie.Need-first-access-requires
-first-access-requires c κs = search needs
+forbidden-bits-requires : tie.Need-forbidden-bits-requires
+forbidden-bits-requires c κs = search needs
 
-shr-read : tie.Need-shr-read
-shr-read c = search needs
+cast-i : tie.Need-cast-i
+cast-i c = search needs
 
-add-write : tie.Need-add-write
-add-write c = search needs
-
-shr-write : tie.Need-shr-write
-shr-write c = search needs
-
-add-execute : tie.Need-add-execute
-add-execute c = search needs
-
-shr-execute : tie.Need-shr-execute
-shr-execute c = search needs
-
-slot-number-requires : tie.Need-slot-number-requires
-slot-number-requires c κs = search needs
+array-read-t11 : tie.Need-array-read-t11
+array-read-t11 c = search needs
 
 returns : tie.Need-returns
 returns c = rw (c .before .range .given .1)
 
 returns-2 : tie.Need-returns-2
-returns-2 c = rw (c .before .before .before .before .before .before .before .before .before .range2 .given .1, c .before .before .before .slot-number .ensures, c .before .before .before .before .before .before .before .first-access .ensures .0)
+returns-2 c = rw (c .before .before .range2 .given .1, c .forbidden-bits .ensures)
 
 pub range-plan-spec : {M : Type 1} → statement M
 range-plan-spec =
@@ -42,12 +30,8 @@ range-plan-spec =
     (tie.spec
     enum-known-range
     enum-known-range-2
-    first-access-requires
-    shr-read
-    add-write
-    shr-write
-    add-execute
-    shr-execute
-    slot-number-requires
+    forbidden-bits-requires
+    cast-i
+    array-read-t11
     returns
     returns-2)

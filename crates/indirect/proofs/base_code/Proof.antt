@@ -4,14 +4,11 @@ use borrow.Author.Needs.{needs}
 use Rattle.indirect.proofs.base_code.Statement.{statement}
 use Rattle.indirect.proofs.base_code.Tie as tie
 
-cast-i : tie.Need-cast-i
-cast-i c = search needs
-
-array-read-b : tie.Need-array-read-b
-array-read-b c = search needs
+code-bits-requires : tie.Need-code-bits-requires
+code-bits-requires c κs = search needs
 
 returns : tie.Need-returns
-returns c = code-is _
+returns c = rw (c .code-bits .ensures) (code-is _)
 
 pub base-code-spec : {M : Type 1} → statement M
-base-code-spec = tie.close (tie.spec cast-i array-read-b returns)
+base-code-spec = tie.close (tie.spec code-bits-requires returns)

@@ -1,9 +1,12 @@
 -- `leaf_rights` meets its contract: 5 refuses the leaf; else both levels. Assumes nothing.
-use Rattle.memory.specs.Order.{checkOf}
+use mathlib.Core.Path.{sym, _∙_}
 use Rattle.descriptors.specs.Descriptor.{stage1Of, stage2Of, limitsOf}
+use Rattle.records.specs.Setup.{setupFrom, controlOf}
+use Rattle.memory.specs.Order.{checkOf}
 use Rattle.levels.specs.Level.{levelsOf}
 use Rattle.judgement.specs.Pass.{passLevels, leafPass}
 use Rattle.judgement.proofs.Steps.{refuses}
+use Rattle.judgement.proofs.Masks.{masked}
 use borrow.Author.Needs.{needs}
 use Rattle.leaves.proofs.leaf_rights.Statement.{statement}
 use Rattle.leaves.proofs.leaf_rights.Tie as tie
@@ -19,29 +22,38 @@ check-refusal-requires c κs = search needs
 
 returns : tie.Need-returns
 unfolding leafPass
-returns c = rw (c .check-refusal .ensures, ← (c .before .before .check-leaf .ensures)) (let a = c .before .before .before .args in refuses (c .before .before .check-leaf .result) (passLevels (a .s .control .two) (levelsOf (a .s) (stage1Of (a .l .stage1)) (stage2Of (a .l .stage2)) (limitsOf (a .l .limits))) (checkOf (a .s) (stage1Of (a .l .stage1)) (stage2Of (a .l .stage2)))) (c .before .match .keys2))
+returns c = rw (c .check-refusal .ensures, ← (c .before .before .check-leaf .ensures)) (let a = c .before .before .before .args in refuses (c .before .before .check-leaf .result) (passLevels (setupFrom (a .q) .control .two) (levelsOf (setupFrom (a .q)) (stage1Of (a .l .stage1)) (stage2Of (a .l .stage2)) (limitsOf (a .l .limits))) (checkOf (setupFrom (a .q)) (stage1Of (a .l .stage1)) (stage2Of (a .l .stage2)))) (c .before .match .keys2))
 
-read-stage1-requires : tie.Need-read-stage1-requires
-read-stage1-requires c κs = search needs
+stage1-mask-requires : tie.Need-stage1-mask-requires
+stage1-mask-requires c κs = search needs
 
-read-stage2-requires : tie.Need-read-stage2-requires
-read-stage2-requires c κs = search needs
+stage2-mask-requires : tie.Need-stage2-mask-requires
+stage2-mask-requires c κs = search needs
 
-read-limits-requires : tie.Need-read-limits-requires
-read-limits-requires c κs = search needs
+read-poindex-requires : tie.Need-read-poindex-requires
+read-poindex-requires c κs = search needs
 
-leaf-levels-requires : tie.Need-leaf-levels-requires
-leaf-levels-requires c κs = search needs
+slot-requires : tie.Need-slot-requires
+slot-requires c κs = search needs
+
+slot-requires-2 : tie.Need-slot-requires-2
+slot-requires-2 c κs = search needs
+
+level-mask-requires : tie.Need-level-mask-requires
+level-mask-requires c κs = search needs
+
+level-mask-requires-2 : tie.Need-level-mask-requires-2
+level-mask-requires-2 c κs = search needs
 
 check-attributes-requires : tie.Need-check-attributes-requires
 check-attributes-requires c κs = search needs
 
-pass-levels-requires : tie.Need-pass-levels-requires
-pass-levels-requires c κs = search needs
+join-levels-requires : tie.Need-join-levels-requires
+join-levels-requires c κs = search needs
 
 returns-2 : tie.Need-returns-2
-unfolding leafPass
-returns-2 c = rw (← (c .before .before .before .before .before .before .before .before .check-leaf .ensures), c .before .before .before .before .before .before .enum-told .given .1, c .pass-levels .ensures, c .before .check-attributes .ensures, c .before .before .leaf-levels .ensures, c .before .before .before .read-limits .ensures, c .before .before .before .before .read-stage2 .ensures, c .before .before .before .before .before .read-stage1 .ensures)
+unfolding controlOf
+returns-2 c = let a = c .before .before .before .before .before .before .before .before .before .before .before .before .args in rw (c .join-levels .ensures, c .before .check-attributes .ensures, c .before .before .level-mask2 .ensures, c .before .before .before .level-mask .ensures, c .before .before .before .before .slot2 .ensures, c .before .before .before .before .before .slot .ensures, c .before .before .before .before .before .before .read-poindex .ensures, c .before .before .before .before .before .before .before .stage2-mask .ensures, c .before .before .before .before .before .before .before .before .stage1-mask .ensures) (masked (a .q) (a .l) (sym (c .before .before .before .before .before .before .before .before .before .before .before .check-leaf .ensures) ∙ c .before .before .before .before .before .before .before .before .before .enum-told .given .1))
 
 pub leaf-rights-spec : {M : Type 1} → statement M
 leaf-rights-spec =
@@ -51,10 +63,13 @@ leaf-rights-spec =
     enum-told
     check-refusal-requires
     returns
-    read-stage1-requires
-    read-stage2-requires
-    read-limits-requires
-    leaf-levels-requires
+    stage1-mask-requires
+    stage2-mask-requires
+    read-poindex-requires
+    slot-requires
+    slot-requires-2
+    level-mask-requires
+    level-mask-requires-2
     check-attributes-requires
-    pass-levels-requires
+    join-levels-requires
     returns-2)

@@ -8,6 +8,7 @@ use native.Mathlib.Nat.{sub-zero}
 use native.Mathlib.Omega.{arith}
 use lib.ListN.{length, take, length-set}
 use lib.Seq.{take-suc-set}
+use Rattle.records.specs.Setup.{setupFrom}
 use Rattle.judgement.specs.List.{bytes, walk}
 use Rattle.lists.specs.Walked.{passAt}
 use Rattle.lists.proofs.Walks.{ahead, ahead-none, one-more, one-refused, ends}
@@ -15,19 +16,19 @@ use Rattle.lists.proofs.fill.Statement.{statement}
 use Rattle.lists.proofs.fill.Tie as tie
 
 abbrev Inv-loop : tie.InvT-loop
-Inv-loop s leaves n buf₀ i₀ buf i =
+Inv-loop q slots attributes leaves n buf₀ i₀ buf i =
     (i ≤ n)
     × (length buf ≡ length buf₀)
-    × (walk (passAt s leaves) 0 n ≡ ahead (take i buf) (walk (passAt s leaves) i (n - i)))
+    × (walk (passAt (setupFrom q) leaves) 0 n ≡ ahead (take i buf) (walk (passAt (setupFrom q) leaves) i (n - i)))
 
 abbrev μ-loop : tie.MeasureT-loop
-μ-loop s leaves n buf₀ i₀ buf i = n - i
+μ-loop q slots attributes leaves n buf₀ i₀ buf i = n - i
 
 loop-holds : tie.Need-loop-holds Inv-loop μ-loop
 loop-holds c = (omega arith, refl, rw sub-zero (sym (ahead-none _)))
 
 pass-at-requires : tie.Need-pass-at-requires Inv-loop μ-loop
-pass-at-requires c κs = omega arith
+pass-at-requires c κs = (omega arith, c .before .before .before .before .pre .2)
 
 enum-known-b : tie.Need-enum-known-b Inv-loop μ-loop
 enum-known-b c = search needs

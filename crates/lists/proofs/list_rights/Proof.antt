@@ -7,7 +7,8 @@ use lib.ListN.{length, take, length-replicate}
 use lib.Seq.{length-take-le}
 use denote.Ref.{now}
 use Rattle.records.proofs.Copies.{copied}
-use Rattle.records.proofs.Lengths.{setup-13}
+use Rattle.records.proofs.Words.{setup-read, words-13}
+use Rattle.records.specs.Setup.{setupFrom}
 use Rattle.records.specs.declared.setup.Setup.{Setup}
 use Rattle.checks.specs.Checks.{setupCheck}
 use Rattle.checks.specs.declared.answer.Answer.the-variants as answer
@@ -19,52 +20,59 @@ use Rattle.lists.proofs.list_rights.Statement.{statement}
 use Rattle.lists.proofs.list_rights.Tie as tie
 
 -- the lent slices where the function starts, and the setup that was read
-abbrev start : tie.After-s → tie.Start
+abbrev start : tie.After-q → tie.Start
 start c = c .before .before .before .before .before .before
 
-abbrev given : tie.After-s → Setup
-given c = c .s .given .0 .0
+abbrev given : tie.After-q → Setup
+given c = setupFrom (c .q .given .0 .0)
 
-abbrev leaves : tie.After-s → List ℕ
+abbrev leaves : tie.After-q → List ℕ
 leaves c = now (start c .args .leaves)
 
-abbrev out : tie.After-s → List ℕ
+abbrev out : tie.After-q → List ℕ
 out c = now (start c .args .out)
 
 -- 13 does not apply
-reads : (c : tie.After-s) → listOf (now (start c .args .setup)) (leaves c) (out c) ≡ afterCheck (setupCheck (given c .control)) (leavesOf (given c) (leaves c) (out c)) (out c)
-reads c = reads-as _ _ _ _ (sym (c .before .before .read-setup .ensures) ∙ c .s .given .1)
+reads : (c : tie.After-q) → listOf (now (start c .args .setup)) (leaves c) (out c) ≡ afterCheck (setupCheck (given c .control)) (leavesOf (given c) (leaves c) (out c)) (out c)
+reads c = reads-as _ _ _ _ (setup-read _ _ (sym (c .before .before .read-words .ensures) ∙ c .q .given .1))
+
+checked : (c : tie.After-check-setup) → setupCheck (given (c .before .before .before) .control) ≡ c .check-setup .result
+unfolding setupFrom
+checked c = sym (c .check-setup .ensures ∙ ap setupCheck (c .before .read-control .ensures))
 
 -- nor do 1, 2 and 3
 ok : (c : tie.After-enum-told2) → setupCheck (given (c .before .before .before .before .before) .control) ≡ answer.Permitted
-ok c = sym (c .before .before .check-setup .ensures) ∙ c .enum-told2 .given .1
+ok c = checked (c .before .before) ∙ c .enum-told2 .given .1
 
 accepted : (c : tie.After-enum-told2) → listOf (now (start (c .before .before .before .before .before) .args .setup)) (leaves (c .before .before .before .before .before)) (out (c .before .before .before .before .before)) ≡ leavesOf (given (c .before .before .before .before .before)) (leaves (c .before .before .before .before .before)) (out (c .before .before .before .before .before))
 accepted c = reads (c .before .before .before .before .before) ∙ ap (λ x. afterCheck x (leavesOf (given (c .before .before .before .before .before)) (leaves (c .before .before .before .before .before)) (out (c .before .before .before .before .before))) (out (c .before .before .before .before .before))) (ok c)
 
 -- the walk that the code made is the list's
-walked : (c : tie.After-fill) (w : Walk) → walkIn (c .fill .result) (length (leaves (c .before .before .before .before .before .before .before .before .before .before)) / 18) (c .fill .last .1 .1 .1 .0) ≡ w
-    → listOf (now (start (c .before .before .before .before .before .before .before .before .before .before) .args .setup)) (leaves (c .before .before .before .before .before .before .before .before .before .before)) (out (c .before .before .before .before .before .before .before .before .before .before)) ≡ finish w (length (leaves (c .before .before .before .before .before .before .before .before .before .before)) / 18) (out (c .before .before .before .before .before .before .before .before .before .before))
+walked : (c : tie.After-fill) (w : Walk) → walkIn (c .fill .result) (length (leaves (c .before .before .before .before .before .before .before .before .before .before .before .before .before .before)) / 18) (c .fill .last .1 .1 .1 .1 .1 .0) ≡ w
+    → listOf (now (start (c .before .before .before .before .before .before .before .before .before .before .before .before .before .before) .args .setup)) (leaves (c .before .before .before .before .before .before .before .before .before .before .before .before .before .before)) (out (c .before .before .before .before .before .before .before .before .before .before .before .before .before .before)) ≡ finish w (length (leaves (c .before .before .before .before .before .before .before .before .before .before .before .before .before .before)) / 18) (out (c .before .before .before .before .before .before .before .before .before .before .before .before .before .before))
 walked c w e =
-    accepted (c .before .before .before .before .before) ∙ goes _ _ _ (c .before .before .before .before .if1 .left) (ok (c .before .before .before .before .before)) (c .before .before .before .if2 .left) (c .before .before .if3 .left) w (c .fill .ensures ∙ e)
+    accepted (c .before .before .before .before .before .before .before .before .before) ∙ goes _ _ _ (c .before .before .before .before .before .before .before .before .if1 .left) (ok (c .before .before .before .before .before .before .before .before .before)) (c .before .before .before .before .before .before .before .if2 .left) (c .before .before .before .before .before .before .if3 .left) w (c .fill .ensures ∙ e)
 
 -- the rights of all leaves fit into the local buffer
-room : (c : tie.After-fill) → length (leaves (c .before .before .before .before .before .before .before .before .before .before)) / 18 ≤ length (c .fill .last .1 .1 .1 .0)
-room c = let h = c .before .before .before .if2 .left in omega (arith, c .fill .kept .1 .1 .1 .0, length-replicate {A = ℕ} 2048 0)
+room : (c : tie.After-fill) → length (leaves (c .before .before .before .before .before .before .before .before .before .before .before .before .before .before)) / 18 ≤ length (c .fill .last .1 .1 .1 .1 .1 .0)
+room c = let h = c .before .before .before .before .before .before .before .if2 .left in omega (arith, c .fill .kept .1 .1 .1 .1 .1 .0, length-replicate {A = ℕ} 2048 0)
 
-read-setup-requires : tie.Need-read-setup-requires
-read-setup-requires c κs = search needs
+read-words-requires : tie.Need-read-words-requires
+read-words-requires c κs = search needs
 
-enum-known-s : tie.Need-enum-known-s
-enum-known-s c = search needs
+enum-known-q : tie.Need-enum-known-q
+enum-known-q c = search needs
 
 enum-told : tie.Need-enum-told
 enum-told c = search needs
 
 returns : tie.Need-returns
-returns c = let q = sym (c .before .before .read-setup .ensures) ∙ c .enum-told .given .1 in
+returns c = let q = sym (c .before .before .read-words .ensures) ∙ c .enum-told .given .1 in
     let o = now (c .before .before .before .before .before .before .args .out) in
-    result _ _ _ (refuse 13 0 o) (reads-as _ _ _ _ q ∙ ap (λ (k : ℕ). refuse k 0 o) (setup-13 _ _ q))
+    result _ _ _ (refuse 13 0 o) (reads-as _ _ _ _ (setup-read _ _ q) ∙ ap (λ (k : ℕ). refuse k 0 o) (words-13 _ _ q))
+
+read-control-requires : tie.Need-read-control-requires
+read-control-requires c κs = search needs
 
 check-setup-requires : tie.Need-check-setup-requires
 check-setup-requires c κs = search needs
@@ -78,7 +86,7 @@ number-of-requires c κs = search needs
 returns-2 : tie.Need-returns-2
 returns-2 c = let o = out (c .before .before .before .before .before) in
     result _ _ _ (refuse (c .number-of .result) 0 o)
-    (reads (c .before .before .before .before .before) ∙ ap (λ x. afterCheck x (leavesOf (given (c .before .before .before .before .before)) (leaves (c .before .before .before .before .before)) o) o) (sym (c .before .before .check-setup .ensures))
+    (reads (c .before .before .before .before .before) ∙ ap (λ x. afterCheck x (leavesOf (given (c .before .before .before .before .before)) (leaves (c .before .before .before .before .before)) o) o) (checked (c .before .before))
     ∙ refused-setup (c .before .before .check-setup .result) (leavesOf (given (c .before .before .before .before .before)) (leaves (c .before .before .before .before .before)) o) o (c .before .match2 .keys2) ∙ ap (λ (k : ℕ). refuse k 0 o) (sym (c .number-of .ensures)))
 
 returns-3 : tie.Need-returns-3
@@ -89,6 +97,12 @@ returns-4 c = result _ _ _ _ (accepted (c .before .before) ∙ long _ _ _ (c .be
 
 returns-5 : tie.Need-returns-5
 returns-5 c = result _ _ _ _ (accepted (c .before .before .before) ∙ short _ _ _ (c .before .before .if1 .left) (c .before .if2 .left) (c .if3 .taken))
+
+slot-table-requires : tie.Need-slot-table-requires
+slot-table-requires c κs = search needs
+
+attribute-table-requires : tie.Need-attribute-table-requires
+attribute-table-requires c κs = search needs
 
 slice-aggregate-fill : tie.Need-slice-aggregate-fill
 slice-aggregate-fill c = search needs
@@ -107,8 +121,8 @@ refused-requires c κs = search needs
 
 returns-6 : tie.Need-returns-6
 returns-6 c = let f = c .before .before .before .before in
-    let e = walked f _ (ap (λ w. walkIn w (length (leaves (f .before .before .before .before .before .before .before .before .before .before)) / 18) (f .fill .last .1 .1 .1 .0)) (c .before .enum-told4 .given .1)) in
-    met _ _ _ (c .refused .result) (out (f .before .before .before .before .before .before .before .before .before .before)) (c .refused .ensures ∙ ap refusedOf (c .before .enum-told4 .given .1) ∙ ap (λ (y : Result). y .answer) (sym e)) (ap (λ (y : Result). y .out) (sym e))
+    let e = walked f _ (ap (λ w. walkIn w (length (leaves (f .before .before .before .before .before .before .before .before .before .before .before .before .before .before)) / 18) (f .fill .last .1 .1 .1 .1 .1 .0)) (c .before .enum-told4 .given .1)) in
+    met _ _ _ (c .refused .result) (out (f .before .before .before .before .before .before .before .before .before .before .before .before .before .before)) (c .refused .ensures ∙ ap refusedOf (c .before .enum-told4 .given .1) ∙ ap (λ (y : Result). y .answer) (sym e)) (ap (λ (y : Result). y .out) (sym e))
 
 array-share-prefix-rights : tie.Need-array-share-prefix-rights
 array-share-prefix-rights c = search needs
@@ -117,26 +131,27 @@ slice-aggregate-copy : tie.Need-slice-aggregate-copy
 slice-aggregate-copy c = sym (length-take-le _ _ (room (c .before .before .before .before)))
 
 copy-requires : tie.Need-copy-requires
-copy-requires c κs = rw (length-take-le _ _ (room (c .before .before .before .before .before))) (c .before .before .before .before .before .before .before .if3 .left)
+copy-requires c κs = rw (length-take-le _ _ (room (c .before .before .before .before .before))) (c .before .before .before .before .before .before .before .before .before .before .before .if3 .left)
 
 same-length : tie.Need-same-length
 same-length c = search needs
 
 returns-7 : tie.Need-returns-7
 returns-7 c = let f = c .before .before .before .before .before .before .before .before in
-    let v = f .fill .last .1 .1 .1 .0 in
-    let e = walked f _ (ap (λ w. walkIn w (length (leaves (f .before .before .before .before .before .before .before .before .before .before)) / 18) v) (c .before .before .before .before .before .enum-told3 .given .1)) in
+    let v = f .fill .last .1 .1 .1 .1 .1 .0 in
+    let e = walked f _ (ap (λ w. walkIn w (length (leaves (f .before .before .before .before .before .before .before .before .before .before .before .before .before .before)) / 18) v) (c .before .before .before .before .before .enum-told3 .given .1)) in
     met _ _ _ _ (c .before .before .copy .last .1 .0) (ap (λ (y : Result). y .answer) (sym e))
-    (c .before .before .copy .ensures .1 ∙ copied (take (length (leaves (f .before .before .before .before .before .before .before .before .before .before)) / 18) v) (out (f .before .before .before .before .before .before .before .before .before .before)) ∙ ap (λ (y : Result). y .out) (sym e))
+    (c .before .before .copy .ensures .1 ∙ copied (take (length (leaves (f .before .before .before .before .before .before .before .before .before .before .before .before .before .before)) / 18) v) (out (f .before .before .before .before .before .before .before .before .before .before .before .before .before .before)) ∙ ap (λ (y : Result). y .out) (sym e))
 
 pub list-rights-spec : {M : Type 1} → statement M
 list-rights-spec =
     tie.close
     (tie.spec
-    read-setup-requires
-    enum-known-s
+    read-words-requires
+    enum-known-q
     enum-told
     returns
+    read-control-requires
     check-setup-requires
     enum-told-2
     number-of-requires
@@ -144,6 +159,8 @@ list-rights-spec =
     returns-3
     returns-4
     returns-5
+    slot-table-requires
+    attribute-table-requires
     slice-aggregate-fill
     fill-requires
     enum-told-3

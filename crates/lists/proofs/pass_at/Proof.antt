@@ -1,7 +1,7 @@
--- `pass_at` meets its contract: the 18 bytes of a leaf are read, so that no length is refused. Assumes nothing.
-use mathlib.Core.Path.{_≡_, sym, _∙_}
+-- `pass_at` meets its contract: the 18 bytes of a leaf are read, so that no length is refused, and quick rights are the leaf's. Assumes nothing.
+use mathlib.Core.Path.{_≡_, sym, ap, _∙_, subst}
 use mathlib.Core.List.{List}
-use Prim.Native.Nat.{ℕ, _*_, _+_, _-_, _≤_}
+use Prim.Native.Nat.{ℕ, _*_, _+_, _-_, _≤_, _<_}
 use native.Mathlib.Nat.{add-sub-cancel-left}
 use native.Mathlib.Omega.{arith}
 use lib.ListN.{length, take, drop, length-take, length-drop}
@@ -9,7 +9,9 @@ use denote.Ref.{now}
 use Rattle.records.proofs.Lengths.{leaf-read}
 use Rattle.records.specs.Leaf.{readLeaf}
 use Rattle.records.specs.declared.leaf.LeafRead.the-variants.{Read}
+use Rattle.judgement.proofs.Quick.{sound}
 use Rattle.judgement.specs.List.{leafAt}
+use Rattle.judgement.specs.declared.LeafRights.the-variants.{Rights}
 use Rattle.lists.specs.Walked.{passAt}
 use borrow.Author.Needs.{needs}
 use Rattle.lists.proofs.pass_at.Statement.{statement}
@@ -21,7 +23,11 @@ part ls i h =
     rw (add-sub-cancel-left (i * 18) 18) (leaf-read (take 18 (drop (i * 18) ls)) (simp (length-take, length-drop) (omega arith)))
 
 read : (c : tie.After-read-leaf) → c .read-leaf .result ≡ Read (leafAt (now (c .before .before .before .args .leaves)) (c .before .before .before .args .i))
-read c = c .read-leaf .ensures ∙ part _ _ (c .before .before .before .pre)
+read c = c .read-leaf .ensures ∙ part _ _ (c .before .before .before .pre .0)
+
+-- the leaf that was read is leaf i
+leaf-is : (c : tie.After-l) → c .l .given .0 .0 ≡ leafAt (now (c .before .before .before .before .before .args .leaves)) (c .before .before .before .before .before .args .i)
+leaf-is c = let q = sym (c .l .given .1) ∙ read (c .before .before) in cc
 
 mul-from : tie.Need-mul-from
 mul-from c = search needs
@@ -50,12 +56,22 @@ enum-told c = search needs
 returns : tie.Need-returns
 returns c = let e = sym (c .enum-told .given .1) ∙ read (c .before .before) in let z : _≡_ {A = ℕ} 0 1 = cc in absurd (omega arith)
 
-leaf-rights-requires : tie.Need-leaf-rights-requires
-leaf-rights-requires c κs = search needs
+quick-rights-requires : tie.Need-quick-rights-requires
+quick-rights-requires c κs = search needs
 
 returns-2 : tie.Need-returns-2
 unfolding passAt
-returns-2 c = let e : c .before .before .l .given .0 .0 ≡ leafAt (now (c .before .before .before .before .before .before .before .args .leaves)) (c .before .before .before .before .before .before .before .args .i) = (let q = sym (c .before .before .l .given .1) ∙ read (c .before .before .before .before) in cc) in rw (c .leaf-rights .ensures, e)
+returns-2 c = let a = c .before .before .before .before .before .before .before .before in
+    let k = leaf-is (c .before .before .before) in
+    sym (rw (sym k) (sound (a .args .q) (c .before .before .before .l .given .0 .0) (now (a .args .slots)) (now (a .args .attributes)) (a .pre .1 .0) (a .pre .1 .1) (subst (λ (n : ℕ). n < 64) (c .before .quick-rights .ensures) (c .if1 .taken)))
+    ∙ ap Rights (sym (c .before .quick-rights .ensures)))
+
+leaf-rights-requires : tie.Need-leaf-rights-requires
+leaf-rights-requires c κs = search needs
+
+returns-3 : tie.Need-returns-3
+unfolding passAt
+returns-3 c = rw (c .leaf-rights .ensures, leaf-is (c .before .before .before .before))
 
 pub pass-at-spec : {M : Type 1} → statement M
 pass-at-spec =
@@ -70,5 +86,7 @@ pass-at-spec =
     enum-known-l
     enum-told
     returns
+    quick-rights-requires
+    returns-2
     leaf-rights-requires
-    returns-2)
+    returns-3)

@@ -10,6 +10,7 @@ use native.Mathlib.Nat.{le-antisymm, sub-zero, add-sub-cancel-left}
 use lib.Dec.{eqb}
 use lib.ListN.{length, getD, take, drop, set, replicate}
 use denote.Ref.{now}
+use Rattle.records.specs.Setup.{setupFrom}
 use Rattle.plan.specs.Plan.{leafPlanOf, plansOf, refusalOf, orRefused, cutBy, uncured, refusedFrom, firstUncured, firstOf, cuts, settled, planLeaves}
 use Rattle.plan.specs.declared.Plan.the-variants.{Register, Refused}
 use Rattle.plan.specs.declared.LeafPlan.{LeafPlan}
@@ -21,21 +22,21 @@ use Rattle.planner.proofs.plan_leaves.Statement.{statement}
 use Rattle.planner.proofs.plan_leaves.Tie as tie
 
 abbrev Inv-loop : tie.InvT-loop
-Inv-loop s l leaves n masks₀ first₀ i₀ masks first i =
+Inv-loop q l leaves n masks₀ first₀ i₀ masks first i =
     (i ≤ n)
-    × (planLeaves s l leaves ≡ refusedFrom (plansOf s l leaves) (settled (plansOf s l leaves) n) (n - i) i)
-    × (cuts (plansOf s l leaves) n 0 (replicate 8 7) ≡ cuts (plansOf s l leaves) (n - i) i masks)
-    × (firstUncured (plansOf s l leaves) n 0 ≡ cond (eqb first n) (firstUncured (plansOf s l leaves) (n - i) i) first)
+    × (planLeaves (setupFrom q) l leaves ≡ refusedFrom (plansOf (setupFrom q) l leaves) (settled (plansOf (setupFrom q) l leaves) n) (n - i) i)
+    × (cuts (plansOf (setupFrom q) l leaves) n 0 (replicate 8 7) ≡ cuts (plansOf (setupFrom q) l leaves) (n - i) i masks)
+    × (firstUncured (plansOf (setupFrom q) l leaves) n 0 ≡ cond (eqb first n) (firstUncured (plansOf (setupFrom q) l leaves) (n - i) i) first)
 
 abbrev μ-loop : tie.MeasureT-loop
-μ-loop s l leaves n masks₀ first₀ i₀ masks first i = n - i
+μ-loop q l leaves n masks₀ first₀ i₀ masks first i = n - i
 
 -- the list, its leaves' plans and their number, at the loop
 abbrev ls : tie.At-loop Inv-loop μ-loop → List ℕ
 ls c = now (c .before .before .args .leaves)
 
 abbrev P : tie.At-loop Inv-loop μ-loop → ℕ → LeafPlan
-P c = plansOf (c .before .before .args .s) (c .before .before .args .l) (ls c)
+P c = plansOf (setupFrom (c .before .before .args .q)) (c .before .before .args .l) (ls c)
 
 abbrev n : tie.At-loop Inv-loop μ-loop → ℕ
 n c = length (ls c) / 18
@@ -45,7 +46,7 @@ planned : (c : tie.After-plan-leaf Inv-loop μ-loop) → c .plan-leaf .result �
 planned c =
     let a = c .before .before .before .before .before .args in
     let i = c .before .before .before .loop .i in
-    c .plan-leaf .ensures ∙ ap (λ (k : ℕ). leafPlanOf (a .s) (a .l) (take k (drop (i * 18) (now (a .leaves))))) (add-sub-cancel-left (i * 18) 18)
+    c .plan-leaf .ensures ∙ ap (λ (k : ℕ). leafPlanOf (setupFrom (a .q)) (a .l) (take k (drop (i * 18) (now (a .leaves))))) (add-sub-cancel-left (i * 18) 18)
 
 -- leaf i's plan where it is a cut
 cut : (c : tie.After-plan Inv-loop μ-loop) → P (c .before .before .before .before .before) (c .before .before .before .before .before .loop .i) ≡ Cut (c .plan .given .0 .0) (c .plan .given .0 .1 .0) (c .plan .given .0 .1 .1 .0)
@@ -56,7 +57,7 @@ low : (c : tie.After-plan Inv-loop μ-loop) → c .plan .given .0 .0 < 8
 low c =
     let g = c .before .before .before .before .before in
     let a = g .before .before .args in
-    subst Low (cut c) (leaf-low (a .s) (a .l) (take 18 (drop (g .loop .i * 18) (ls g)))) .0
+    subst Low (cut c) (leaf-low (setupFrom (a .q)) (a .l) (take 18 (drop (g .loop .i * 18) (ls g)))) .0
 
 -- after the loop
 ended : (c : tie.After-loop Inv-loop μ-loop) → c .before .loop .i ≡ n (c .before)
@@ -68,7 +69,7 @@ last-masks c = c .before .loop .inv .2 ∙ cuts-done _ _ _ _ (c .loop-test .left
 last-first : (c : tie.After-loop Inv-loop μ-loop) → firstUncured (P (c .before)) (n (c .before)) 0 ≡ c .before .loop .first
 last-first c = c .before .loop .inv .3 ∙ first-done _ _ _ _ (ended c)
 
-last-plan : (c : tie.After-loop Inv-loop μ-loop) → planLeaves (c .before .before .before .args .s) (c .before .before .before .args .l) (ls (c .before)) ≡ settled (P (c .before)) (n (c .before))
+last-plan : (c : tie.After-loop Inv-loop μ-loop) → planLeaves (setupFrom (c .before .before .before .args .q)) (c .before .before .before .args .l) (ls (c .before)) ≡ settled (P (c .before)) (n (c .before))
 last-plan c = c .before .loop .inv .1 ∙ refused-done _ _ _ _ (c .loop-test .left)
 
 loop-holds : tie.Need-loop-holds Inv-loop μ-loop
@@ -147,7 +148,7 @@ returns-2 c = sym (last-plan (c .before) ∙ uncured-settles _ _ _ (last-first (
 pack-requires : tie.Need-pack-requires Inv-loop μ-loop
 pack-requires c κs = let e = c .before in
     let a = e .before .before .before .args in
-    subst (λ (ms : List ℕ). (s : ℕ) → getD ms s 0 < 8) (last-masks e) (cuts-masks (P (e .before)) (λ i. leaf-low (a .s) (a .l) (take 18 (drop (i * 18) (ls (e .before))))) _ _ _ sevens .small)
+    subst (λ (ms : List ℕ). (s : ℕ) → getD ms s 0 < 8) (last-masks e) (cuts-masks (P (e .before)) (λ i. leaf-low (setupFrom (a .q)) (a .l) (take 18 (drop (i * 18) (ls (e .before))))) _ _ _ sevens .small)
 
 returns-3 : tie.Need-returns-3 Inv-loop μ-loop
 returns-3 c = let e = c .before .before in

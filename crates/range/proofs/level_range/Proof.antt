@@ -1,38 +1,46 @@
--- `level_range` meets its contract: every slot of 77777777 is 7 and every slot of 0 is 0, by the law `range-is`. Assumes nothing.
-use Rattle.levels.proofs.Ranges.{range-is}
+-- `level_range` meets its contract: the level's rights with slot 7 and with slot 0. Assumes nothing.
+use Rattle.levels.proofs.Masks.{range-masks}
 use borrow.Author.Needs.{needs}
 use Rattle.range.proofs.level_range.Statement.{statement}
 use Rattle.range.proofs.level_range.Tie as tie
 
-stage1-pass-requires : tie.Need-stage1-pass-requires
-stage1-pass-requires c κs = search needs
+overlay-on-requires : tie.Need-overlay-on-requires
+overlay-on-requires c κs = search needs
 
-stage2-pass-requires : tie.Need-stage2-pass-requires
-stage2-pass-requires c κs = search needs
+stage1-mask-requires : tie.Need-stage1-mask-requires
+stage1-mask-requires c κs = search needs
+
+stage2-mask-requires : tie.Need-stage2-mask-requires
+stage2-mask-requires c κs = search needs
+
+read-poindex-requires : tie.Need-read-poindex-requires
+read-poindex-requires c κs = search needs
 
 place-requires : tie.Need-place-requires
 place-requires c κs = search needs
 
-pass-with-requires : tie.Need-pass-with-requires
-pass-with-requires c κs = search needs
+level-mask-requires : tie.Need-level-mask-requires
+level-mask-requires c κs = search needs
 
-pass-with-requires-2 : tie.Need-pass-with-requires-2
-pass-with-requires-2 c κs = search needs
+level-mask-requires-2 : tie.Need-level-mask-requires-2
+level-mask-requires-2 c κs = search needs
 
-range-from-requires : tie.Need-range-from-requires
-range-from-requires c κs = search needs
+range-with-requires : tie.Need-range-with-requires
+range-with-requires c κs = search needs
 
 returns : tie.Need-returns
-returns c = rw (range-is, c .range-from .ensures, c .before .pass-with2 .ensures, c .before .before .pass-with .ensures, c .before .before .before .place .ensures, c .before .before .before .before .stage2-pass .ensures, c .before .before .before .before .before .stage1-pass .ensures)
+returns c = let a = c .before .before .before .before .before .before .before .before .args in rw (c .range-with .ensures, c .before .level-mask2 .ensures, c .before .before .level-mask .ensures, c .before .before .before .place .ensures, c .before .before .before .before .read-poindex .ensures, c .before .before .before .before .before .stage2-mask .ensures, c .before .before .before .before .before .before .stage1-mask .ensures, c .before .before .before .before .before .before .before .overlay-on .ensures) (range-masks (a .q) (a .d) (a .e) (a .t) (a .l))
 
 pub level-range-spec : {M : Type 1} → statement M
 level-range-spec =
     tie.close
     (tie.spec
-    stage1-pass-requires
-    stage2-pass-requires
+    overlay-on-requires
+    stage1-mask-requires
+    stage2-mask-requires
+    read-poindex-requires
     place-requires
-    pass-with-requires
-    pass-with-requires-2
-    range-from-requires
+    level-mask-requires
+    level-mask-requires-2
+    range-with-requires
     returns)

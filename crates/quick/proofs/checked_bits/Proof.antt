@@ -1,0 +1,23 @@
+-- `checked_bits` meets its contract: a truth value is 0 or 1. Assumes nothing.
+use native.Mathlib.Omega.{arith}
+use mathlib.Core.Bool.{not, _&&_}
+use lib.Dec.{eqb}
+use Rattle.judgement.proofs.Quick.{byte-is, byte-low}
+use borrow.Author.Needs.{needs}
+use Rattle.quick.proofs.checked_bits.Statement.{statement}
+use Rattle.quick.proofs.checked_bits.Tie as tie
+
+cast-refused : tie.Need-cast-refused
+cast-refused c = search needs
+
+shown-bits-requires : tie.Need-shown-bits-requires
+shown-bits-requires c κs = search needs
+
+mul-result : tie.Need-mul-result
+mul-result c = let a = c .before .args in omega (arith, byte-low (not (a .passes) && not (eqb (a .s) 0)))
+
+returns : tie.Need-returns
+returns c = let a = c .before .args in rw (c .shown-bits .ensures, byte-is (not (a .passes) && not (eqb (a .s) 0)))
+
+pub checked-bits-spec : {M : Type 1} → statement M
+checked-bits-spec = tie.close (tie.spec cast-refused shown-bits-requires mul-result returns)

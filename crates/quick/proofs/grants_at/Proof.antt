@@ -1,0 +1,58 @@
+-- `grants_at` meets its contract: each slot has three bits. Assumes nothing.
+use native.Mathlib.Omega.{arith}
+use Rattle.descriptors.specs.Bits.{bit, nibble}
+use Rattle.judgement.proofs.Quick.{grants-small}
+use borrow.Author.Needs.{needs}
+use Rattle.quick.proofs.grants_at.Statement.{statement}
+use Rattle.quick.proofs.grants_at.Tie as tie
+
+mul-slot-bits : tie.Need-mul-slot-bits
+mul-slot-bits c = search needs
+
+shr-slot-bits : tie.Need-shr-slot-bits
+shr-slot-bits c = search needs
+
+cast-slot-bits : tie.Need-cast-slot-bits
+cast-slot-bits c = search needs
+
+slot-bits-requires : tie.Need-slot-bits-requires
+slot-bits-requires c κs = search needs
+
+mul-slot-bits-2 : tie.Need-mul-slot-bits-2
+mul-slot-bits-2 c = search needs
+
+shr-slot-bits-2 : tie.Need-shr-slot-bits-2
+shr-slot-bits-2 c = search needs
+
+cast-slot-bits-2 : tie.Need-cast-slot-bits-2
+cast-slot-bits-2 c = search needs
+
+slot-bits-requires-2 : tie.Need-slot-bits-requires-2
+slot-bits-requires-2 c κs = search needs
+
+mul-result : tie.Need-mul-result
+mul-result c = let a = c .before .before .args in
+    omega (arith, c .slot-bits2 .ensures, grants-small (bit (a .w) 5) (nibble (a .u) (a .k)), c .before .slot-bits .ensures, grants-small (bit (a .w) 4) (nibble (a .p) (a .k)))
+
+add-result : tie.Need-add-result
+add-result c = let a = c .before .before .args in
+    omega (arith, c .slot-bits2 .ensures, grants-small (bit (a .w) 5) (nibble (a .u) (a .k)), c .before .slot-bits .ensures, grants-small (bit (a .w) 4) (nibble (a .p) (a .k)))
+
+returns : tie.Need-returns
+returns c = rw (c .slot-bits2 .ensures, c .before .slot-bits .ensures)
+
+pub grants-at-spec : {M : Type 1} → statement M
+grants-at-spec =
+    tie.close
+    (tie.spec
+    mul-slot-bits
+    shr-slot-bits
+    cast-slot-bits
+    slot-bits-requires
+    mul-slot-bits-2
+    shr-slot-bits-2
+    cast-slot-bits-2
+    slot-bits-requires-2
+    mul-result
+    add-result
+    returns)

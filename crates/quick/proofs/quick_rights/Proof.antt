@@ -1,0 +1,95 @@
+-- `quick_rights` meets its contract: each test picks its case. Assumes nothing.
+use mathlib.Core.Path.{_≡_, sym, _∙_}
+use denote.Ref.{now}
+use borrow.Author.Tests.{le-leb, lt-leb}
+use Rattle.descriptors.specs.Bits.{bit}
+use Rattle.memory.specs.Table.{passesWith}
+use Rattle.judgement.proofs.Quick.{quick-known}
+use Rattle.judgement.specs.Quick.{quickBits, quickOf}
+use borrow.Author.Needs.{needs}
+use Rattle.quick.proofs.quick_rights.Statement.{statement}
+use Rattle.quick.proofs.quick_rights.Tie as tie
+
+-- where both stages are known: the arguments, and the rights by what is known
+abbrev start : tie.After-both-bits → tie.Start
+start c = c .before .before .before .before .before .before .before .before .before .before .before .before .before
+
+known : (c : tie.After-both-bits) → let a = start c .args in
+    quickOf (a .q) (now (a .slots)) (now (a .attributes)) (a .l)
+    ≡ quickBits (bit (a .q .control) 0) (c .both-bits .result) (passesWith (now (a .attributes)) (a .q .control) (a .l .stage1) (a .l .stage2))
+known c =
+    let a = start c .args in
+    quick-known (a .q) (now (a .slots)) (now (a .attributes)) (a .l) (c .before .before .before .before .before .before .before .first .given .0 .0) (c .both-bits .result) (c .before .before .before .before .before .before .before .before .before .before .if1 .left)
+    (sym (c .before .before .before .before .before .before .before .before .before .stage1-mask .ensures) ∙ c .before .before .before .before .before .before .before .first .given .1)
+    (rw (c .before .stage2-mask .ensures, c .before .before .before .before .place .ensures, c .before .before .before .before .before .read-poindex .ensures) at (sym (c .both-bits .ensures)))
+
+returns : tie.Need-returns
+unfolding quickOf
+returns c = rw (c .if1 .taken)
+
+stage1-mask-requires : tie.Need-stage1-mask-requires
+stage1-mask-requires c κs = search needs
+
+enum-known-first : tie.Need-enum-known-first
+enum-known-first c = search needs
+
+enum-told : tie.Need-enum-told
+enum-told c = search needs
+
+returns-2 : tie.Need-returns-2
+unfolding quickOf
+returns-2 c = rw (c .before .before .before .if1 .left, ← (c .before .before .stage1-mask .ensures), c .enum-told .given .1)
+
+read-poindex-requires : tie.Need-read-poindex-requires
+read-poindex-requires c κs = search needs
+
+place-requires : tie.Need-place-requires
+place-requires c κs = search needs
+
+element-copy-out-both-bits : tie.Need-element-copy-out-both-bits
+element-copy-out-both-bits c = search needs
+
+add-both-bits : tie.Need-add-both-bits
+add-both-bits c = search needs
+
+element-copy-out-both-bits-2 : tie.Need-element-copy-out-both-bits-2
+element-copy-out-both-bits-2 c = search needs
+
+stage2-mask-requires : tie.Need-stage2-mask-requires
+stage2-mask-requires c κs = search needs
+
+both-bits-requires : tie.Need-both-bits-requires
+both-bits-requires c κs = search needs
+
+returns-3 : tie.Need-returns-3
+returns-3 c = sym (rw (le-leb _ _ (c .if2 .taken)) at (known (c .before)))
+
+passes-with-requires : tie.Need-passes-with-requires
+passes-with-requires c κs = search needs
+
+checked-bits-requires : tie.Need-checked-bits-requires
+checked-bits-requires c κs = search needs
+
+returns-4 : tie.Need-returns-4
+returns-4 c = rw (c .checked-bits .ensures, c .before .passes-with .ensures) (sym (rw (lt-leb _ _ (c .before .before .if2 .left)) at (known (c .before .before .before))))
+
+pub quick-rights-spec : {M : Type 1} → statement M
+quick-rights-spec =
+    tie.close
+    (tie.spec
+    returns
+    stage1-mask-requires
+    enum-known-first
+    enum-told
+    returns-2
+    read-poindex-requires
+    place-requires
+    element-copy-out-both-bits
+    add-both-bits
+    element-copy-out-both-bits-2
+    stage2-mask-requires
+    both-bits-requires
+    returns-3
+    passes-with-requires
+    checked-bits-requires
+    returns-4)

@@ -1,0 +1,12 @@
+-- `reserves` meets its contract: the test picks the case. Assumes nothing.
+use Rattle.quick.proofs.reserves.Statement.{statement}
+use Rattle.quick.proofs.reserves.Tie as tie
+
+returns : tie.Need-returns
+returns c = rw (c .if1 .taken)
+
+returns-2 : tie.Need-returns-2
+returns-2 c = rw (c .if1 .left)
+
+pub reserves-spec : {M : Type 1} → statement M
+reserves-spec = tie.close (tie.spec returns returns-2)

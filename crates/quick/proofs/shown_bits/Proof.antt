@@ -1,0 +1,13 @@
+-- `shown_bits` meets its contract: by the number of levels. Assumes nothing.
+use borrow.Author.Needs.{needs}
+use Rattle.quick.proofs.shown_bits.Statement.{statement}
+use Rattle.quick.proofs.shown_bits.Tie as tie
+
+returns : tie.Need-returns
+returns c = rw (c .if1 .taken)
+
+returns-2 : tie.Need-returns-2
+returns-2 c = rw (c .if1 .left)
+
+pub shown-bits-spec : {M : Type 1} → statement M
+shown-bits-spec = tie.close (tie.spec returns returns-2)
