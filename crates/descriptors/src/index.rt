@@ -8,7 +8,8 @@ pub struct PIIndex(u8);
 pub struct POIndex(u8);
 
 impl PIIndex {
-    pub(crate) fn of(d: u64) -> PIIndex
+    // The PIIndex of a stage 1 descriptor.
+    pub fn of(d: u64) -> PIIndex
         ensures { λ r. ⌜ r ≡ piIndex d ⌝ }
     {
         PIIndex(((d >> 54) % 2 * 8 + (d >> 53) % 2 * 4 + (d >> 51) % 2 * 2 + (d >> 6) % 2) as u8)
@@ -24,7 +25,8 @@ impl PIIndex {
 }
 
 impl POIndex {
-    pub(crate) fn of(d: u64) -> POIndex
+    // The POIndex of a stage 1 descriptor.
+    pub fn of(d: u64) -> POIndex
         ensures { λ r. ⌜ r ≡ poIndex d ⌝ }
     {
         POIndex(((d >> 60) % 8) as u8)

@@ -3,7 +3,7 @@
 pub mod index;
 
 ghost use mathlib.Core.Path.{_≡_};
-ghost use Rattle.descriptors.specs.Descriptor.{limitsOf, piIndex, poIndex, stage1Of, stage2Of};
+ghost use Rattle.descriptors.specs.Descriptor.{limitsOf, stage1Of, stage2Of};
 use crate::index::PIIndex;
 use crate::index::POIndex;
 
@@ -56,20 +56,6 @@ pub fn read_limits(l: u8) -> Limits
         pxntable: (l >> 2) % 2 == 1,
         uxntable: (l >> 3) % 2 == 1,
     }
-}
-
-// The PIIndex of a stage 1 descriptor alone.
-pub fn read_piindex(d: u64) -> PIIndex
-    ensures { λ r. ⌜ r ≡ piIndex d ⌝ }
-{
-    PIIndex::of(d)
-}
-
-// The POIndex of a stage 1 descriptor alone.
-pub fn read_poindex(d: u64) -> POIndex
-    ensures { λ r. ⌜ r ≡ poIndex d ⌝ }
-{
-    POIndex::of(d)
 }
 
 // The fields of a stage 1 descriptor.

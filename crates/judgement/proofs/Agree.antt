@@ -35,7 +35,9 @@ use Rattle.memory.specs.declared.Check.the-variants as check
 use Rattle.memory.specs.declared.Memory.{Memory}
 use Rattle.judgement.specs.Judge.{fetches, combined, after, judged}
 use Rattle.judgement.specs.LeafRights.{weigh, add, gather, accesses, leafRights}
-use Rattle.judgement.specs.Pass.{one, levelByte, checked, levelPart, join, leafPass}
+use Rattle.permissions.specs.Masks.{one}
+use Rattle.levels.specs.Masks.{levelBits}
+use Rattle.judgement.specs.Pass.{checked, levelPart, join, leafPass}
 use Rattle.judgement.specs.declared.Judgement.{Judgement}
 use Rattle.judgement.specs.declared.Judgement.the-variants as judgement
 use Rattle.judgement.specs.declared.LeafRights.{LeafRights}
@@ -76,7 +78,7 @@ merge w (Refused n) g = Refused n
 
 -- the attribute steps refuse a level exactly where a right reaches them
 refused-any : (p q x : Bool) (n w : ℕ) (g : LeafRights)
-    → cond p (Refused n) (cond q (Refused n) (cond x (Refused n) g)) ≡ merge w (checked (levelByte (three p q x)) (check.Refused n)) g
+    → cond p (Refused n) (cond q (Refused n) (cond x (Refused n) g)) ≡ merge w (checked (levelBits (three p q x)) (check.Refused n)) g
 refused-any false false false n w g = rw mul-zero (weigh-none g)
 refused-any false false true n w g = refl
 refused-any false true false n w g = refl
@@ -93,7 +95,7 @@ After (check.Refused n) j = j ≡ judgement.Refused n
 
 -- the weights of a level's rights
 bits : (p q x : Bool) (w u v : ℕ) → u ≡ 2 * w → v ≡ 4 * w
-    → w * one p + u * one q + v * one x ≡ w * levelByte (three p q x)
+    → w * one p + u * one q + v * one x ≡ w * levelBits (three p q x)
 bits false false false w u v e f = omega arith
 bits false false true w u v e f = omega arith
 bits false true false w u v e f = omega arith
@@ -120,7 +122,7 @@ granted a b c r e check.Passes d f (m, hd) (n, hf) w u v hu hv g =
     x .1 ∙ ap (weigh (w * one (permitted a))) (y .1 ∙ ap (weigh (u * one (permitted b))) (z .1))
     ∙ weigh-more (w * one (permitted a)) (u * one (permitted b)) (weigh (v * one (permitted c)) g)
     ∙ weigh-more (w * one (permitted a) + u * one (permitted b)) (v * one (permitted c)) g ∙ ap (λ (k : ℕ). weigh k g) (bits (permitted a) (permitted b) (permitted c) w u v hu hv)
-    ∙ ap (λ (y : LevelRights). weigh (w * levelByte y) g) q)
+    ∙ ap (λ (y : LevelRights). weigh (w * levelBits y) g) q)
 granted a b c r e (check.Refused n) d f hd hf w u v hu hv g =
     let x = refuses-one a _ r e n w (add (after b (judgement.Refused n)) u (add (after c (judgement.Refused n)) v g)) in
     let y = refuses-one b _ r (x .0) n u (add (after c (judgement.Refused n)) v g) in
@@ -129,7 +131,7 @@ granted a b c r e (check.Refused n) d f hd hf w u v hu hv g =
     rw (hd, hf) (
     x .1 ∙ ap (cond (permitted a) (Refused n)) (y .1 ∙ ap (cond (permitted b) (Refused n)) (z .1))
     ∙ refused-any (permitted a) (permitted b) (permitted c) n w g
-    ∙ ap (λ (y : LevelRights). merge w (checked (levelByte y) (check.Refused n)) g) q)
+    ∙ ap (λ (y : LevelRights). merge w (checked (levelBits y) (check.Refused n)) g) q)
 
 -- a level that is refused, where no access is permitted
 stopped-level : (a b c : Answer) (n : ℕ) → collect a b c ≡ level.Refused n → permitted a ≡ false → permitted b ≡ false → permitted c ≡ false

@@ -15,7 +15,7 @@ use Rattle.judgement.specs.Demands.{isAllowed, judgedBit}
 use Rattle.judgement.specs.Judge.{judged}
 use Rattle.judgement.specs.LeafRights.{add, gather, accesses, leafRights}
 use Rattle.judgement.specs.List.{Walk, bytes, refused, step, walk}
-use Rattle.judgement.specs.Pass.{one}
+use Rattle.permissions.specs.Masks.{one}
 use Rattle.judgement.specs.declared.Judgement.{Judgement}
 use Rattle.judgement.specs.declared.Judgement.the-variants as judgement
 use Rattle.judgement.specs.declared.LeafRights.{LeafRights}

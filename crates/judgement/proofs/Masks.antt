@@ -29,14 +29,13 @@ use Rattle.memory.specs.Shareability.{reservedSH}
 use Rattle.memory.specs.Step as memory
 use Rattle.memory.specs.StageTwoType.{memAttrOf, reservedMemAttr}
 use Rattle.memory.specs.declared.Check.{Check}
-use Rattle.judgement.specs.Pass.{levelByte, checked, levelPart, maskPart, join, leafPass}
-use Rattle.judgement.specs.declared.LeafRights.{LeafRights}
+use Rattle.judgement.specs.Pass.{checked, levelPart, maskPart, join, leafPass}
 
 -- a level's bits are below 8
-low-bits : (r : LevelRights) → levelBits r % 8 ≡ levelByte r
+low-bits : (r : LevelRights) → levelBits r % 8 ≡ levelBits r
 low-bits r =
     each (r .read ∷ r .write ∷ r .execute ∷ []) (λ (m : List Bool). levelBits (three (getD m 0 false) (getD m 1 false) (getD m 2 false)) % 8)
-    (λ (m : List Bool). levelByte (three (getD m 0 false) (getD m 1 false) (getD m 2 false))) refl
+    (λ (m : List Bool). levelBits (three (getD m 0 false) (getD m 1 false) (getD m 2 false))) refl
 
 part-is : (a : LevelAnswer) (c : Check) → maskPart (levelMask a) c ≡ levelPart a c
 part-is (level.Rights r) c = ap (λ (b : ℕ). checked b c) (low-bits r)

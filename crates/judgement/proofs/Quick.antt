@@ -5,13 +5,12 @@ use mathlib.Core.Bool.{Bool, true, false, cond, not, _&&_, _||_}
 use mathlib.Core.List.{List, [], _∷_}
 use Prim.Native.Nat.{ℕ, _+_, _-_, _*_, _/_, _%_, _^_, _≤_, _<_}
 use native.Mathlib.Omega.{arith}
-use native.Mathlib.Nat.{mod-eq-of-lt}
-use lib.Bits.{bitAnd, bitOr, and-mod, and-shr, or-mod, or-shr, or-zero-r, and-zero-r, and-mask}
+use lib.Bits.{bitAnd, bitOr, and-mod, and-shr, or-mod, or-shr, or-zero-r}
 use mir.Val.{boolByte}
 use lib.Dec.{eqb, leb, ltb}
 use lib.ListN.{getD}
-use borrow.Author.Tests.{eqb-true, eq-eqb, leb-true, leb-false, ltb-true}
-use Rattle.records.proofs.Cases.{upto, at, each, each-digit}
+use borrow.Author.Tests.{eqb-true, eq-eqb, leb-false}
+use Rattle.records.proofs.Cases.{at, each, each-digit}
 use Rattle.records.specs.declared.access.Level.{Level}
 use Rattle.records.specs.declared.access.Level.the-variants.{Privileged, Unprivileged}
 use Rattle.records.specs.Setup.{controlOf, setupFrom}
@@ -19,19 +18,20 @@ use Rattle.records.specs.declared.leaf.Leaf.{Leaf}
 use Rattle.records.specs.declared.setup.Words.{Words}
 use Rattle.checks.specs.Checks.{leafCheck}
 use Rattle.stages.specs.Overlay.{bitOf, registerOf}
-use Rattle.descriptors.specs.Bits.{bit, nibble}
+use Rattle.descriptors.specs.Bits.{bit}
 use Rattle.descriptors.specs.Descriptor.{stage1Of, stage2Of, limitsOf, poIndex, placeOf, slotAt}
 use Rattle.permissions.specs.declared.Mask.{Mask}
 use Rattle.permissions.specs.declared.Mask.the-variants.{Granted, Refused}
+use Rattle.levels.proofs.Masks.{slot-low}
 use Rattle.levels.specs.Pass.{stage1Pass, stage2Pass}
 use Rattle.levels.specs.Masks.{setupWith, stage1Mask, stage2Mask, bitsIn, appliesIn, slotTable, stage2Left, slotLeft, maskWith}
 use Rattle.memory.proofs.Table.{passes-with}
 use Rattle.memory.specs.Table.{AttributeTable, passesWith}
 use Rattle.memory.specs.declared.Check.{Check}
 use Rattle.memory.specs.declared.Check.the-variants as check
-use Rattle.judgement.specs.Pass.{checked, maskPart, join, leafPass}
+use Rattle.judgement.specs.Pass.{maskPart, join, leafPass}
 use Rattle.judgement.proofs.Masks.{checkAs, masked}
-use Rattle.judgement.specs.Quick.{grants, reserves, grantsAt, reservesAt, cover, overlaidBits, stage2Bits, checkedBits, below, bothBits, quickBits, quickFrom, SlotTable, quickOf}
+use Rattle.judgement.specs.Quick.{grants, reserves, cover, overlaidBits, stage2Bits, checkedBits, below, bothBits, quickBits, quickFrom, SlotTable, quickOf}
 use Rattle.judgement.specs.declared.LeafRights.{LeafRights}
 use Rattle.judgement.specs.declared.LeafRights.the-variants.{Rights}
 
@@ -204,11 +204,11 @@ module _ (on : Level → Bool) (slot : Level → ℕ) (g r : ℕ) (hg : (l : Lev
   sound-from two (Refused n) t c b p h = absurd (omega arith)
 
 -- a place's entries are those of the levels
-pub grants-small : (on : Bool) (v : ℕ) → grants on v < 8
-grants-small true v = ltb-true _ _ (at 8 (λ (k : ℕ). ltb (getD slotTable k 0) 8) (λ (k : ℕ). true) refl (v % 8) (omega arith))
+grants-small : (on : Bool) (v : ℕ) → grants on v < 8
+grants-small true v = slot-low v
 grants-small false v = omega arith
 
-pub reserves-small : (on : Bool) (v : ℕ) → reserves on v < 8
+reserves-small : (on : Bool) (v : ℕ) → reserves on v < 8
 reserves-small on v = go (on && leb 8 v)
   where
     go : (b : Bool) → cond b 7 0 < 8

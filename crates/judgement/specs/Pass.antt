@@ -10,6 +10,7 @@ use Rattle.permissions.specs.declared.Mask.{Mask}
 use Rattle.permissions.specs.declared.Mask.the-variants as mask
 use Rattle.checks.specs.Checks.{leafCheck}
 use Rattle.levels.specs.Level.{levelsOf}
+use Rattle.levels.specs.Masks.{levelBits}
 use Rattle.checks.specs.declared.answer.Answer.{Answer}
 use Rattle.checks.specs.declared.answer.Answer.the-variants as answer
 use Rattle.levels.specs.declared.LeafLevels.{LeafLevels}
@@ -22,21 +23,13 @@ use Rattle.memory.specs.declared.Check.the-variants as check
 use Rattle.judgement.specs.declared.LeafRights.{LeafRights}
 use Rattle.judgement.specs.declared.LeafRights.the-variants.{Rights, Refused}
 
--- a bit, 0 or 1
-abbrev pub one : Bool → ℕ
-one b = cond b 1 0
-
--- the rights of a level as bits 0 to 2
-abbrev pub levelByte : LevelRights → ℕ
-levelByte r = one (r .read) + 2 * one (r .write) + 4 * one (r .execute)
-
 -- the attribute steps of rights that reach them
 abbrev pub checked : ℕ → Check → LeafRights
 checked b check.Passes = Rights b
 checked b (check.Refused n) = cond (eqb b 0) (Rights b) (Refused n)
 
 abbrev pub levelPart : LevelAnswer → Check → LeafRights
-levelPart (level.Rights r) c = checked (levelByte r) c
+levelPart (level.Rights r) c = checked (levelBits r) c
 levelPart (level.Refused n) c = Refused n
 
 -- the same of a mask, which has the rights of a level in its low three bits

@@ -3,6 +3,7 @@ ghost use mathlib.Core.Path.{_≡_};
 ghost use Rattle.records.specs.Setup.{setupFrom};
 ghost use Rattle.judgement.specs.Pass.{maskPart, Below, join, afterCheck, leafPass};
 use checks::answer::Answer;
+use descriptors::index::POIndex;
 use judgement::LeafRights;
 use memory::Check;
 use pass::level_mask;
@@ -73,7 +74,7 @@ pub fn leaf_rights(q: Words, l: Leaf) -> LeafRights
     let e = l.stage2;
     let first = pass::stage1_mask(w, q.pir.privileged, q.pir.unprivileged, d, l.limits);
     let second = pass::stage2_mask(w, e);
-    let i = descriptors::read_poindex(d);
+    let i = POIndex::of(d);
     let p = i.slot(q.por.privileged);
     let u = i.slot(q.por.unprivileged);
     join_levels(

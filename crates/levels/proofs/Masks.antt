@@ -6,8 +6,9 @@ use mathlib.Core.List.{List, [], _∷_}
 use Prim.Native.Nat.{ℕ, _+_, _*_, _/_, _%_, _^_, _<_}
 use native.Mathlib.Omega.{arith}
 use lib.Bits.{bitAnd, bitOr}
-use lib.Dec.{eqb, leb}
+use lib.Dec.{eqb, leb, ltb}
 use lib.ListN.{getD}
+use borrow.Author.Tests.{ltb-true}
 use Rattle.records.proofs.Cases.{tree, digitTree, at, each, each-digit}
 use Rattle.descriptors.specs.Bits.{bit}
 use Rattle.descriptors.specs.Descriptor.{stage1Of, stage2Of, limitsOf, poIndex, placeOf, slotAt}
@@ -111,6 +112,10 @@ slot-bits a on v h =
     (λ (m : List Bool). levelBits (overlaid (pick m 3) (slotRights v) (low m)))
     (at 16 (λ (k : ℕ). tree 4 (λ (m : List Bool). bitAnd (levelBits (low m)) (cond (pick m 3) (getD slotTable (k % 8) 0) 7)))
     (λ (k : ℕ). tree 4 (λ (m : List Bool). levelBits (overlaid (pick m 3) (slotRights k) (low m)))) refl v h)
+
+-- a slot grants three bits
+pub slot-low : (v : ℕ) → getD slotTable (v % 8) 0 < 8
+slot-low v = ltb-true _ _ (at 8 (λ (k : ℕ). ltb (getD slotTable k 0) 8) (λ (k : ℕ). true) refl (v % 8) (omega arith))
 
 -- a choice of answers as a choice of masks
 chosen : (b : Bool) (x y : LevelAnswer) → levelMask (cond b x y) ≡ cond b (levelMask x) (levelMask y)

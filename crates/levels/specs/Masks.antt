@@ -1,6 +1,6 @@
 -- The one pass as the code makes it, with rights as bits of a number: private to the layer. The laws of proofs/Masks say that it gives
 -- what Pass has. Assumes nothing.
-use Prim.Native.Nat.{ℕ, _+_, _*_, _/_, _%_, _^_}
+use Prim.Native.Nat.{ℕ, _/_, _%_, _^_}
 use mathlib.Core.Bool.{Bool, cond, not, _&&_}
 use mathlib.Core.List.{List, [], _∷_}
 use lib.Bits.{bitAnd}

@@ -1,13 +1,13 @@
 -- A leaf that a setup's table passes is passed by the check. Assumes nothing.
 use mathlib.Core.Path.{_≡_, refl, sym, ap, ap₂, _∙_}
-use mathlib.Core.Bool.{Bool, true, false, cond, not, _&&_, _||_}
+use mathlib.Core.Bool.{Bool, true, false, cond, not, _&&_}
 use mathlib.Core.List.{List, [], _∷_}
 use Prim.Native.Nat.{ℕ, _+_, _*_, _/_, _%_, _^_, _<_}
 use native.Mathlib.Omega.{arith}
 use native.Mathlib.Nat.{mod-eq-of-lt}
 use lib.Dec.{eqb, leb}
 use lib.ListN.{getD}
-use borrow.Author.Tests.{eqb-true, le-leb, lt-leb}
+use borrow.Author.Tests.{le-leb, lt-leb}
 use Rattle.records.proofs.Cases.{at}
 use Rattle.records.specs.Setup.{controlOf}
 use Rattle.descriptors.specs.Bits.{bit, field}
@@ -18,7 +18,7 @@ use Rattle.memory.specs.Order.{checkOf}
 use Rattle.memory.specs.Shareability.{reservedSH}
 use Rattle.memory.specs.StageTwoType.{memAttrOf, reservedCode, reservedMemAttr}
 use Rattle.memory.specs.Step.{setupWith}
-use Rattle.memory.specs.Table.{byteAt, badByte, badCode, AttributeTable, attrIndxOf, memAttrIn, badSH, passesWith}
+use Rattle.memory.specs.Table.{byteAt, AttributeTable, attrIndxOf, memAttrIn, badSH, passesWith}
 use Rattle.memory.specs.declared.Check.the-variants.{Passes}
 
 -- the top bit of an index of four bits, and its low three

@@ -4,11 +4,12 @@
 ghost use mathlib.Core.Path.{_≡_};
 ghost use mathlib.Core.Bool.{cond};
 ghost use lib.ListN.{getD};
-ghost use Prim.Native.Nat.{_%_};
+ghost use Prim.Native.Nat.{_%_, _<_};
 ghost use Rattle.descriptors.specs.Bits.{bit};
 ghost use Rattle.descriptors.specs.Descriptor.{stage1Of, stage2Of, limitsOf};
 ghost use Rattle.levels.specs.Masks.{setupWith, stage1Mask, stage2Mask, bitsIn, appliesIn, slotTable, stage2Left, slotLeft, maskWith};
 ghost use Rattle.levels.specs.Pass.{stage1Pass, stage2Pass};
+use descriptors::index::PIIndex;
 use permissions::Mask;
 use records::access::Level;
 
@@ -29,7 +30,7 @@ pub fn stage1_mask(w: u32, p: u64, u: u64, d: u64, t: u8) -> Mask
                 if (d >> 7) % 2 == 1 {
                     return Mask::Refused(7);
                 }
-                let i = descriptors::read_piindex(d);
+                let i = PIIndex::of(d);
                 return masks::indirect_mask((w >> 0) % 2 == 1, i.code(p), i.code(u));
             }
             if (d >> 51) % 2 == 1 {
@@ -96,7 +97,7 @@ fn stage2_left(r: u8, t: Mask, l: Level) -> Mask
 
 // What slot `v` grants; everything where no overlay applies.
 pub fn slot_bits(on: bool, v: u8) -> u8
-    ensures { λ r. ⌜ r ≡ cond on (getD slotTable (v % 8) 0) 7 ⌝ }
+    ensures { λ r. ⌜ (r ≡ cond on (getD slotTable (v % 8) 0) 7) × (r < 8) ⌝ }
 {
     let i = (v % 8) as usize;
     if on {

@@ -126,14 +126,14 @@ twice : (n : ℕ) → bitAnd (bitAnd n 63) 63 ≡ bitAnd n 63
 twice n = and-mask (bitAnd n 63) 6 ∙ mod-eq-of-lt (mask-lt n 6)
 
 -- without WXN and PAN the removal by unprivileged write is left
-plain : (m : ℕ) → bitAnd (bitAnd m (keep (bit m 4) 59)) 63 ≡ removed false false m
-plain m = go (bit m 4)
+write-removal-alone : (m : ℕ) → bitAnd (bitAnd m (keep (bit m 4) 59)) 63 ≡ removed false false m
+write-removal-alone m = go (bit m 4)
   where
     go : (b : Bool) → bitAnd (bitAnd m (keep b 59)) 63 ≡ bitAnd (bitAnd (bitAnd m (keep (b || false) 59)) 63) 63
     go true = sym (twice (bitAnd m 59))
     go false = sym (twice (bitAnd m 63))
 
-pub plainly : (w p : Bool) (m : ℕ) → (w || p) ≡ false → bitAnd (bitAnd m (keep (bit m 4) 59)) 63 ≡ removed w p m
-plainly false false m e = plain m
-plainly false true m e = absurd (let z : _≡_ {A = ℕ} 0 1 = cc in omega arith)
-plainly true p m e = absurd (let z : _≡_ {A = ℕ} 0 1 = cc in omega arith)
+pub write-removal : (w p : Bool) (m : ℕ) → (w || p) ≡ false → bitAnd (bitAnd m (keep (bit m 4) 59)) 63 ≡ removed w p m
+write-removal false false m e = write-removal-alone m
+write-removal false true m e = absurd (let z : _≡_ {A = ℕ} 0 1 = cc in omega arith)
+write-removal true p m e = absurd (let z : _≡_ {A = ℕ} 0 1 = cc in omega arith)

@@ -8,7 +8,6 @@ use native.Mathlib.Nat.{zero-div, div-eq-of-lt}
 use lib.Dec.{eqb}
 use lib.ListN.{getD}
 use lib.Pow.{shr-shr, field, mod-mod-pow, pow-mono}
-use mir.Val.{boolByte}
 use Rattle.records.proofs.Cases.{upto, at, each}
 use Rattle.descriptors.specs.Bits.{bit, nibble}
 use Rattle.records.specs.declared.access.Right.{Right}
@@ -19,14 +18,6 @@ use Rattle.plan.specs.Register.{slotBit, slotNumber, cutMask}
 use Rattle.plan.specs.Plan.{any}
 
 -- a truth value as a number
-pub byte-is : (b : Bool) → boolByte b ≡ cond b 1 0
-byte-is true = refl
-byte-is false = refl
-
-pub byte-low : (b : Bool) → boolByte b ≤ 1
-byte-low true = omega arith
-byte-low false = omega arith
-
 cond-low : (b : Bool) → cond b 1 0 ≤ 1
 cond-low true = omega arith
 cond-low false = omega arith

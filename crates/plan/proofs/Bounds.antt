@@ -10,14 +10,14 @@ use lib.ListN.{length, replicate}
 use borrow.Author.Tests.{ltb-true}
 use Rattle.records.specs.declared.access.Level.{Level}
 use Rattle.records.specs.declared.setup.Setup.{Setup}
-use Rattle.plan.specs.Plan.{leafAt, plansOf, orRefused, refusedFrom, firstUncured, cuts, registerFor, settled, planLeaves, planFrom, startOf, planOf}
+use Rattle.plan.specs.Plan.{leafAt, plansOf, orRefused, refusedFrom, firstUncured, registerFor, settled, planLeaves, planFrom, startOf, planOf}
 use Rattle.plan.specs.declared.Plan.{Plan}
 use Rattle.plan.specs.declared.Plan.the-variants.{Register, Refused}
 use Rattle.plan.specs.declared.LeafPlan.{LeafPlan}
 use Rattle.plan.specs.declared.LeafPlan.the-variants as plan
 use Rattle.plan.specs.declared.Start.{Start}
 use Rattle.plan.specs.declared.Start.the-variants as start
-use Rattle.plan.proofs.Cuts.{Masks, Low, cuts-masks, sevens}
+use Rattle.plan.proofs.Cuts.{cuts-masks, sevens}
 use Rattle.plan.proofs.Leaves.{leaf-low}
 use Rattle.plan.proofs.Packing.{pack-lt-32}
 use Rattle.plan.proofs.Starts.{fits}

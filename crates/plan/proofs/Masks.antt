@@ -1,5 +1,5 @@
 -- A leaf's plan from rights as bits is its plan. Assumes nothing.
-use mathlib.Core.Path.{_≡_, refl, sym, ap, ap₂, _∙_}
+use mathlib.Core.Path.{_≡_, refl, ap, ap₂, _∙_}
 use mathlib.Core.Bool.{Bool, false, not}
 use mathlib.Core.List.{List, [], _∷_}
 use Prim.Native.Nat.{ℕ, _+_, _*_, _/_, _%_, _^_}
@@ -15,7 +15,7 @@ use Rattle.levels.proofs.Masks.{and-bits, any-bits}
 use Rattle.levels.specs.Masks.{levelBits, rangeMask}
 use Rattle.levels.specs.declared.LevelRange.{LevelRange}
 use Rattle.levels.specs.declared.LevelRange.the-variants as range
-use Rattle.plan.specs.Plan.{forbiddenRights, common, any, rangePlan, forbiddenBits, slotOrder, maskPlan}
+use Rattle.plan.specs.Plan.{forbiddenRights, common, rangePlan, forbiddenBits, slotOrder, maskPlan}
 use Rattle.plan.specs.Register.{slotNumber}
 use Rattle.plan.specs.declared.LeafPlan.the-variants.{Cut}
 

@@ -4,6 +4,7 @@ ghost use mathlib.Core.Path.{_≡_};
 ghost use mathlib.Core.Bool.{cond};
 ghost use Prim.Native.Nat.{_%_, _<_};
 ghost use Rattle.judgement.specs.Quick.{reserves, grantsAt, reservesAt, overlaidBits, stage2Bits, checkedBits, bothBits, SlotTable, quickOf};
+use descriptors::index::POIndex;
 use pass::slot_bits;
 use permissions::Mask;
 use records::leaf::Leaf;
@@ -11,7 +12,7 @@ use records::setup::Words;
 
 // A mask where slot `v` is reserved and the overlay is on.
 fn reserves(on: bool, v: u8) -> u8
-    ensures { λ r. ⌜ r ≡ reserves on v ⌝ }
+    ensures { λ r. ⌜ (r ≡ reserves on v) × (r < 8) ⌝ }
 {
     if on & (8 <= v) {
         return 7;
@@ -121,7 +122,7 @@ pub fn quick_rights(q: Words, slots: &[u8; 16], attributes: &[u8; 32], l: Leaf) 
     let Mask::Granted(m) = first else {
         return 64;
     };
-    let i = descriptors::read_poindex(d).place();
+    let i = POIndex::of(d).place();
     let s = both_bits(m, slots[i], slots[i + 8], pass::stage2_mask(w, e));
     if 64 <= s {
         return 64;

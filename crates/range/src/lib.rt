@@ -5,6 +5,7 @@ ghost use Rattle.records.specs.Setup.{controlOf, setupFrom};
 ghost use Rattle.stages.specs.Overlay.{bitOf};
 ghost use Rattle.levels.specs.Level.{rangeOf};
 ghost use Rattle.levels.specs.Masks.{rangeMask, rangeWith};
+use descriptors::index::POIndex;
 use levels::RangeMask;
 use pass::level_mask;
 use permissions::Mask;
@@ -46,7 +47,7 @@ pub fn level_range(q: Words, d: u64, e: u64, t: u8, l: Level) -> RangeMask
     let on = overlay_on(w, l);
     let first = pass::stage1_mask(w, q.pir.privileged, q.pir.unprivileged, d, t);
     let second = pass::stage2_mask(w, e);
-    let i = descriptors::read_poindex(d);
+    let i = POIndex::of(d);
     range_with(
         i.place(),
         level_mask(on, first, 7, second, l),

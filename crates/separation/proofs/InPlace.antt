@@ -1,12 +1,12 @@
 -- A setup's bytes with a register in place of a level's POR are read as the setup with that register in place. Assumes nothing.
-use mathlib.Core.Path.{_≡_, refl, sym, ap, _∙_}
-use mathlib.Core.List.{List, [], _∷_, _++_}
-use Prim.Native.Nat.{ℕ, _+_, _*_, _/_, _%_, _^_, _<_}
+use mathlib.Core.Path.{_≡_, refl, ap, _∙_}
+use mathlib.Core.List.{List, [], _∷_}
+use Prim.Native.Nat.{ℕ, _+_, _^_, _<_}
 use native.Mathlib.Omega.{arith}
 use lib.ListN.{length, getD}
 use borrow.Author.Tests.{eq-eqb}
 use Rattle.records.proofs.Cases.{upto}
-use Rattle.records.specs.Bytes.{little, le64}
+use Rattle.records.specs.Bytes.{le64}
 use Rattle.records.specs.Setup.{wordsOf, setupFrom, setupOf, readSetup}
 use Rattle.records.specs.declared.access.Level.{Level}
 use Rattle.records.specs.declared.access.Level.the-variants.{Privileged, Unprivileged}

@@ -4,16 +4,14 @@ use mathlib.Core.Bool.{Bool, true, false, cond, _&&_}
 use mathlib.Core.List.{List, [], _∷_}
 use mathlib.Core.Logic.{_⊎_, inl, inr}
 use Prim.Native.Nat.{ℕ, _/_, _%_, _^_, _<_}
-use native.Mathlib.Nat.{mod-lt}
 use native.Mathlib.Omega.{arith}
 use lib.Bits.{bitAnd, and-shr, and-mod}
 use lib.Dec.{eqb, ltb}
 use lib.ListN.{length, getD}
 use borrow.Author.Tests.{eqb-true}
 use Rattle.records.proofs.Cases.{upto, at}
-use Rattle.records.specs.Access.{accessAt, accessOf}
+use Rattle.records.specs.Access.{accessAt}
 use Rattle.descriptors.specs.Bits.{bit}
-use Rattle.descriptors.specs.Descriptor.{stage1Of, stage2Of}
 use Rattle.records.specs.Setup.{setupOf, readSetup}
 use Rattle.records.specs.declared.access.Level.{Level}
 use Rattle.records.specs.declared.access.Level.the-variants.{Privileged, Unprivileged}
@@ -29,11 +27,10 @@ use Rattle.levels.specs.Register.{put}
 use Rattle.checks.specs.declared.answer.Answer.{Answer}
 use Rattle.checks.specs.declared.answer.Answer.the-variants as answer
 use Rattle.judgement.proofs.Demands.{list-meets}
-use Rattle.judgement.specs.Demands.{isAllowed, judgedBit}
+use Rattle.judgement.specs.Demands.{isAllowed}
 use Rattle.judgement.specs.Judge.{after, judged}
 use Rattle.judgement.specs.List.{leafAt, listOf}
 use Rattle.judgement.specs.declared.Judgement.{Judgement}
-use Rattle.judgement.specs.declared.Listed.the-variants.{Done}
 use Rattle.plan.proofs.Consequences.{access-number}
 use Rattle.plan.proofs.Theorem.{demand3}
 use Rattle.plan.specs.Plan.{planOf}

@@ -1,11 +1,11 @@
 -- The text of a file by what was read of it, and of a map by what its list answered. Assumes nothing.
 use mathlib.Core.Path.{_≡_, refl, sym, ap, _∙_}
 use mathlib.Core.Bool.{Bool, true, false, cond, _&&_}
-use mathlib.Core.List.{List, [], _++_, append-nil}
+use mathlib.Core.List.{List, [], append-nil}
 use Prim.Native.Nat.{ℕ, _+_, _*_, _≤_, _<_}
 use native.Mathlib.Nat.{zero-add}
 use native.Mathlib.Omega.{arith}
-use lib.Dec.{leb, ltb}
+use lib.Dec.{leb}
 use lib.ListN.{length, take, drop, replicate, length-append, length-replicate, drop-of-length-le}
 use lib.Seq.{take-at, length-take-le}
 use borrow.Author.Tests.{le-leb, lt-ltb, le-ltb}
@@ -18,7 +18,7 @@ use Rattle.judgement.specs.List.{listOf}
 use Rattle.judgement.specs.declared.Listed.{Listed}
 use Rattle.judgement.specs.declared.Listed.the-variants.{Done, Refused}
 use Rattle.io.specs.Counts.{Counts}
-use Rattle.text.specs.Listing.{refusalLine, mapLines, listLines, mapText, fileText, textOf, written}
+use Rattle.text.specs.Listing.{refusalLine, mapLines, mapText, textOf, written}
 use Rattle.text.specs.Put.{Put}
 
 -- the list's answer x, with the rights rs written

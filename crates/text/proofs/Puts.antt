@@ -6,7 +6,7 @@ use native.Mathlib.Nat.{add-assoc, add-zero}
 use native.Mathlib.Omega.{arith}
 use lib.ListN.{length, take, drop, length-append, length-take, length-drop, drop-of-length-le, take-append-drop}
 use lib.Seq.{take-at, drop-at, take-length, drop-drop, length-take-le}
-use Rattle.text.specs.Put.{putAt, Put}
+use Rattle.text.specs.Put.{Put}
 
 -- what `bytes::copy` leaves where a word was lent its place
 pub word-put : (o w m : List ℕ) (k : ℕ) → k + length w ≤ length o

@@ -30,8 +30,8 @@ stage1-mask-requires c κs = search needs
 stage2-mask-requires : tie.Need-stage2-mask-requires
 stage2-mask-requires c κs = search needs
 
-read-poindex-requires : tie.Need-read-poindex-requires
-read-poindex-requires c κs = search needs
+of-requires : tie.Need-of-requires
+of-requires c κs = search needs
 
 slot-requires : tie.Need-slot-requires
 slot-requires c κs = search needs
@@ -53,7 +53,7 @@ join-levels-requires c κs = search needs
 
 returns-2 : tie.Need-returns-2
 unfolding controlOf
-returns-2 c = let a = c .before .before .before .before .before .before .before .before .before .before .before .before .args in rw (c .join-levels .ensures, c .before .check-attributes .ensures, c .before .before .level-mask2 .ensures, c .before .before .before .level-mask .ensures, c .before .before .before .before .slot2 .ensures, c .before .before .before .before .before .slot .ensures, c .before .before .before .before .before .before .read-poindex .ensures, c .before .before .before .before .before .before .before .stage2-mask .ensures, c .before .before .before .before .before .before .before .before .stage1-mask .ensures) (masked (a .q) (a .l) (sym (c .before .before .before .before .before .before .before .before .before .before .before .check-leaf .ensures) ∙ c .before .before .before .before .before .before .before .before .before .enum-told .given .1))
+returns-2 c = let a = c .before .before .before .before .before .before .before .before .before .before .before .before .args in rw (c .join-levels .ensures, c .before .check-attributes .ensures, c .before .before .level-mask2 .ensures, c .before .before .before .level-mask .ensures, c .before .before .before .before .slot2 .ensures, c .before .before .before .before .before .slot .ensures, c .before .before .before .before .before .before .of .ensures, c .before .before .before .before .before .before .before .stage2-mask .ensures, c .before .before .before .before .before .before .before .before .stage1-mask .ensures) (masked (a .q) (a .l) (sym (c .before .before .before .before .before .before .before .before .before .before .before .check-leaf .ensures) ∙ c .before .before .before .before .before .before .before .before .before .enum-told .given .1))
 
 pub leaf-rights-spec : {M : Type 1} → statement M
 leaf-rights-spec =
@@ -65,7 +65,7 @@ leaf-rights-spec =
     returns
     stage1-mask-requires
     stage2-mask-requires
-    read-poindex-requires
+    of-requires
     slot-requires
     slot-requires-2
     level-mask-requires

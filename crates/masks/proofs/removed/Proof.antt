@@ -1,5 +1,5 @@
 -- `removed` meets its contract: each step is the definition's. Assumes nothing.
-use Rattle.permissions.proofs.Masks.{plainly}
+use Rattle.permissions.proofs.Masks.{write-removal}
 use borrow.Author.Needs.{needs}
 use Rattle.masks.proofs.removed.Statement.{statement}
 use Rattle.masks.proofs.removed.Tie as tie
@@ -20,7 +20,7 @@ keep-requires-4 : tie.Need-keep-requires-4
 keep-requires-4 c κs = search needs
 
 returns-2 : tie.Need-returns-2
-returns-2 c = let a = c .before .before .args in rw (c .keep4 .ensures) (plainly (a .wxn) (a .pan) (a .m) (c .before .if1 .left))
+returns-2 c = let a = c .before .before .args in rw (c .keep4 .ensures) (write-removal (a .wxn) (a .pan) (a .m) (c .before .if1 .left))
 
 pub removed-spec : {M : Type 1} → statement M
 removed-spec =

@@ -1,5 +1,4 @@
 -- `upper_bits` meets its contract: by the number of levels. Assumes nothing.
-use borrow.Author.Needs.{needs}
 use Rattle.masks.proofs.upper_bits.Statement.{statement}
 use Rattle.masks.proofs.upper_bits.Tie as tie
 

@@ -13,7 +13,7 @@ stage2-left-requires : tie.Need-stage2-left-requires
 stage2-left-requires c κs = search needs
 
 returns-2 : tie.Need-returns-2
-returns-2 c = rw (c .before .before .if1 .left, c .stage2-left .ensures, c .before .slot-bits .ensures)
+returns-2 c = rw (c .before .before .if1 .left, c .stage2-left .ensures, c .before .slot-bits .ensures .0)
 
 pub slot-left-spec : {M : Type 1} → statement M
 slot-left-spec = tie.close (tie.spec returns slot-bits-requires stage2-left-requires returns-2)

@@ -16,8 +16,8 @@ returns : tie.Need-returns
 unfolding controlOf stage1Of stage1Pass
 returns c = rw (eq-eqb _ _ (c .before .before .before .if1 .taken), c .before .before .if2 .taken, eq-eqb _ _ (c .before .if3 .taken), eq-eqb _ _ (c .if4 .taken))
 
-read-piindex-requires : tie.Need-read-piindex-requires
-read-piindex-requires c κs = search needs
+of-requires : tie.Need-of-requires
+of-requires c κs = search needs
 
 code-requires : tie.Need-code-requires
 code-requires c κs = search needs
@@ -30,7 +30,7 @@ indirect-mask-requires c κs = search needs
 
 returns-2 : tie.Need-returns-2
 unfolding controlOf stage1Of stage1Pass baseOf indirectOf
-returns-2 c = rw (c .indirect-mask .ensures, c .before .code2 .ensures, c .before .before .code .ensures, c .before .before .before .read-piindex .ensures, eq-eqb _ _ (c .before .before .before .before .before .before .before .if1 .taken), c .before .before .before .before .before .before .if2 .taken, eq-eqb _ _ (c .before .before .before .before .before .if3 .taken), ne-eqb _ _ (c .before .before .before .before .if4 .left), from-base)
+returns-2 c = rw (c .indirect-mask .ensures, c .before .code2 .ensures, c .before .before .code .ensures, c .before .before .before .of .ensures, eq-eqb _ _ (c .before .before .before .before .before .before .before .if1 .taken), c .before .before .before .before .before .before .if2 .taken, eq-eqb _ _ (c .before .before .before .before .before .if3 .taken), ne-eqb _ _ (c .before .before .before .before .if4 .left), from-base)
 
 returns-3 : tie.Need-returns-3
 unfolding controlOf stage1Of stage1Pass
@@ -58,7 +58,7 @@ stage1-mask-spec =
     tie.close
     (tie.spec
     returns
-    read-piindex-requires
+    of-requires
     code-requires
     code-requires-2
     indirect-mask-requires

@@ -9,7 +9,6 @@ use Rattle.plan.specs.Plan.{startOf, planLeaves, planFrom, planOf, valuesOf}
 use Rattle.plan.specs.declared.Plan.{Plan}
 use Rattle.plan.specs.declared.Start.{Start}
 use Rattle.records.proofs.Words.{setup-read}
-use Rattle.records.specs.Setup.{setupFrom}
 use Rattle.records.specs.declared.setup.Setup.{Setup}
 use Rattle.plan.proofs.Starts.{fits, same-setup, not-read}
 use Rattle.plan.proofs.Theorem.{demand3}

@@ -1,7 +1,5 @@
 -- `grants_at` meets its contract: each slot has three bits. Assumes nothing.
 use native.Mathlib.Omega.{arith}
-use Rattle.descriptors.specs.Bits.{bit, nibble}
-use Rattle.judgement.proofs.Quick.{grants-small}
 use borrow.Author.Needs.{needs}
 use Rattle.quick.proofs.grants_at.Statement.{statement}
 use Rattle.quick.proofs.grants_at.Tie as tie
@@ -31,15 +29,13 @@ slot-bits-requires-2 : tie.Need-slot-bits-requires-2
 slot-bits-requires-2 c κs = search needs
 
 mul-result : tie.Need-mul-result
-mul-result c = let a = c .before .before .args in
-    omega (arith, c .slot-bits2 .ensures, grants-small (bit (a .w) 5) (nibble (a .u) (a .k)), c .before .slot-bits .ensures, grants-small (bit (a .w) 4) (nibble (a .p) (a .k)))
+mul-result c = omega arith
 
 add-result : tie.Need-add-result
-add-result c = let a = c .before .before .args in
-    omega (arith, c .slot-bits2 .ensures, grants-small (bit (a .w) 5) (nibble (a .u) (a .k)), c .before .slot-bits .ensures, grants-small (bit (a .w) 4) (nibble (a .p) (a .k)))
+add-result c = omega arith
 
 returns : tie.Need-returns
-returns c = rw (c .slot-bits2 .ensures, c .before .slot-bits .ensures)
+returns c = rw (c .slot-bits2 .ensures .0, c .before .slot-bits .ensures .0)
 
 pub grants-at-spec : {M : Type 1} → statement M
 grants-at-spec =

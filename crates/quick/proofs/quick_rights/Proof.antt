@@ -21,7 +21,7 @@ known c =
     let a = start c .args in
     quick-known (a .q) (now (a .slots)) (now (a .attributes)) (a .l) (c .before .before .before .before .before .before .before .first .given .0 .0) (c .both-bits .result) (c .before .before .before .before .before .before .before .before .before .before .if1 .left)
     (sym (c .before .before .before .before .before .before .before .before .before .stage1-mask .ensures) ∙ c .before .before .before .before .before .before .before .first .given .1)
-    (rw (c .before .stage2-mask .ensures, c .before .before .before .before .place .ensures, c .before .before .before .before .before .read-poindex .ensures) at (sym (c .both-bits .ensures)))
+    (rw (c .before .stage2-mask .ensures, c .before .before .before .before .place .ensures, c .before .before .before .before .before .of .ensures) at (sym (c .both-bits .ensures)))
 
 returns : tie.Need-returns
 unfolding quickOf
@@ -40,8 +40,8 @@ returns-2 : tie.Need-returns-2
 unfolding quickOf
 returns-2 c = rw (c .before .before .before .if1 .left, ← (c .before .before .stage1-mask .ensures), c .enum-told .given .1)
 
-read-poindex-requires : tie.Need-read-poindex-requires
-read-poindex-requires c κs = search needs
+of-requires : tie.Need-of-requires
+of-requires c κs = search needs
 
 place-requires : tie.Need-place-requires
 place-requires c κs = search needs
@@ -82,7 +82,7 @@ quick-rights-spec =
     enum-known-first
     enum-told
     returns-2
-    read-poindex-requires
+    of-requires
     place-requires
     element-copy-out-both-bits
     add-both-bits

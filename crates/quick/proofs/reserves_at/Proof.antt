@@ -1,7 +1,5 @@
 -- `reserves_at` meets its contract: each slot has three bits. Assumes nothing.
 use native.Mathlib.Omega.{arith}
-use Rattle.descriptors.specs.Bits.{bit, nibble}
-use Rattle.judgement.proofs.Quick.{reserves-small}
 use borrow.Author.Needs.{needs}
 use Rattle.quick.proofs.reserves_at.Statement.{statement}
 use Rattle.quick.proofs.reserves_at.Tie as tie
@@ -31,15 +29,13 @@ reserves-requires-2 : tie.Need-reserves-requires-2
 reserves-requires-2 c κs = search needs
 
 mul-result : tie.Need-mul-result
-mul-result c = let a = c .before .before .args in
-    omega (arith, c .reserves2 .ensures, reserves-small (bit (a .w) 5) (nibble (a .u) (a .k)), c .before .reserves .ensures, reserves-small (bit (a .w) 4) (nibble (a .p) (a .k)))
+mul-result c = omega arith
 
 add-result : tie.Need-add-result
-add-result c = let a = c .before .before .args in
-    omega (arith, c .reserves2 .ensures, reserves-small (bit (a .w) 5) (nibble (a .u) (a .k)), c .before .reserves .ensures, reserves-small (bit (a .w) 4) (nibble (a .p) (a .k)))
+add-result c = omega arith
 
 returns : tie.Need-returns
-returns c = rw (c .reserves2 .ensures, c .before .reserves .ensures)
+returns c = rw (c .reserves2 .ensures .0, c .before .reserves .ensures .0)
 
 pub reserves-at-spec : {M : Type 1} → statement M
 reserves-at-spec =

@@ -1,5 +1,4 @@
 -- `shown_bits` meets its contract: by the number of levels. Assumes nothing.
-use borrow.Author.Needs.{needs}
 use Rattle.quick.proofs.shown_bits.Statement.{statement}
 use Rattle.quick.proofs.shown_bits.Tie as tie
 

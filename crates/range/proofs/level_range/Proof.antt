@@ -13,8 +13,8 @@ stage1-mask-requires c κs = search needs
 stage2-mask-requires : tie.Need-stage2-mask-requires
 stage2-mask-requires c κs = search needs
 
-read-poindex-requires : tie.Need-read-poindex-requires
-read-poindex-requires c κs = search needs
+of-requires : tie.Need-of-requires
+of-requires c κs = search needs
 
 place-requires : tie.Need-place-requires
 place-requires c κs = search needs
@@ -29,7 +29,7 @@ range-with-requires : tie.Need-range-with-requires
 range-with-requires c κs = search needs
 
 returns : tie.Need-returns
-returns c = let a = c .before .before .before .before .before .before .before .before .args in rw (c .range-with .ensures, c .before .level-mask2 .ensures, c .before .before .level-mask .ensures, c .before .before .before .place .ensures, c .before .before .before .before .read-poindex .ensures, c .before .before .before .before .before .stage2-mask .ensures, c .before .before .before .before .before .before .stage1-mask .ensures, c .before .before .before .before .before .before .before .overlay-on .ensures) (range-masks (a .q) (a .d) (a .e) (a .t) (a .l))
+returns c = let a = c .before .before .before .before .before .before .before .before .args in rw (c .range-with .ensures, c .before .level-mask2 .ensures, c .before .before .level-mask .ensures, c .before .before .before .place .ensures, c .before .before .before .before .of .ensures, c .before .before .before .before .before .stage2-mask .ensures, c .before .before .before .before .before .before .stage1-mask .ensures, c .before .before .before .before .before .before .before .overlay-on .ensures) (range-masks (a .q) (a .d) (a .e) (a .t) (a .l))
 
 pub level-range-spec : {M : Type 1} → statement M
 level-range-spec =
@@ -38,7 +38,7 @@ level-range-spec =
     overlay-on-requires
     stage1-mask-requires
     stage2-mask-requires
-    read-poindex-requires
+    of-requires
     place-requires
     level-mask-requires
     level-mask-requires-2

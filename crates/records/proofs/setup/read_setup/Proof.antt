@@ -1,6 +1,5 @@
 -- `setup::read_setup` meets its contract: the setup is that of the words. Assumes nothing.
 use mathlib.Core.Path.{sym, ap, _∙_}
-use Prim.Native.Nat.{ℕ}
 use Rattle.records.specs.declared.setup.SetupRead.the-variants.{Read, Refused}
 use Rattle.records.proofs.Words.{setup-read, words-13}
 use borrow.Author.Needs.{needs}
