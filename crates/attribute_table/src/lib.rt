@@ -2,25 +2,13 @@
 // function has a `requires`.
 ghost use mathlib.Core.Path.{_≡_};
 ghost use Prim.Native.Nat.{_<_};
-ghost use Rattle.memory.specs.Table.{byteAt, badByte, badCode, AttributeTable, passesWith};
+ghost use Rattle.memory.specs.Table.{badByte, badCode, AttributeTable, passesWith};
+use codes::mair::byte_at;
 use codes::mair::valid_byte;
 use codes::stage2::reserved_code;
 
-// The byte at AttrIndx `k`, where `w` is the control word.
-fn byte_at(w: u32, mair: u64, mair2: u64, k: usize) -> u8
-    requires { ⌜ k < 16 ⌝ }
-    ensures { λ r. ⌜ r ≡ byteAt w mair mair2 k ⌝ }
-{
-    let i = k % 8;
-    if ((w >> 12) % 2 == 1) & (8 <= k) {
-        return ((mair2 >> (8 * i)) % 256) as u8;
-    }
-    ((mair >> (8 * i)) % 256) as u8
-}
-
 // 8 at stage 1 for AttrIndx `k`.
 fn bad_byte(w: u32, mair: u64, mair2: u64, k: usize) -> u8
-    requires { ⌜ k < 16 ⌝ }
     ensures { λ r. ⌜ r ≡ badByte w mair mair2 k ⌝ }
 {
     if ((w >> 1) % 2 == 1) & !valid_byte(byte_at(w, mair, mair2, k)) {

@@ -5,9 +5,9 @@
 // ignored. Permissions are not read.
 ghost use mathlib.Core.Path.{_≡_};
 ghost use Rattle.descriptors.specs.Descriptor.{stage1Of, stage2Of};
-ghost use Rattle.memory.specs.Mair.{mairByte};
 ghost use Rattle.memory.specs.Order.{attributesOf, checkOf};
 ghost use Rattle.memory.specs.Step.{setupWith};
+use codes::mair::byte_at;
 use codes::mair::stage1_code;
 use codes::mair::valid_byte;
 use codes::stage2::memattr_code;
@@ -39,17 +39,6 @@ pub fn access_attributes(s: Setup, one: Stage1, two: Stage2, fetch: bool) -> Att
     Attributes::Combined(Memory { byte: byte, sh: sh })
 }
 
-// The byte that descriptor `d` picks in MAIR or MAIR2, where `w` is the control word.
-fn picked_byte(w: u32, mair: u64, mair2: u64, d: u64) -> u8
-    ensures { λ r. ⌜ r ≡ mairByte (setupWith w mair mair2) (stage1Of d) ⌝ }
-{
-    let i = (d >> 2) % 8 % 8;
-    if ((w >> 12) % 2 == 1) & ((d >> 59) % 2 == 1) {
-        return ((mair2 >> (8 * i)) % 256) as u8;
-    }
-    ((mair >> (8 * i)) % 256) as u8
-}
-
 // The refusal that the attribute steps of any access of a leaf meet, the same for data and fetches: `w` is the control word, `d` and `e` are
 // the descriptors.
 pub fn check_attributes(w: u32, mair: u64, mair2: u64, d: u64, e: u64) -> Check
@@ -57,7 +46,8 @@ pub fn check_attributes(w: u32, mair: u64, mair2: u64, d: u64, e: u64) -> Check
 {
     let one = (w >> 1) % 2 == 1;
     let two = (w >> 2) % 2 == 1;
-    let first = one & !valid_byte(picked_byte(w, mair, mair2, d));
+    let k = ((d >> 2) % 8 + (d >> 59) % 2 * 8) as usize;
+    let first = one & !valid_byte(byte_at(w, mair, mair2, k));
     let second = two & reserved_code((w >> 9) % 2 == 1, ((e >> 2) % 16) as u8 % 16);
     let third = one & ((d >> 8) % 4 % 4 == 1) | two & ((e >> 8) % 4 % 4 == 1);
     if first | second {

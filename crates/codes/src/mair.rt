@@ -2,6 +2,7 @@
 ghost use mathlib.Core.Path.{_≡_};
 ghost use Rattle.memory.specs.Mair.{isDevice, validByte, mairByte, offByte, stage1Byte, reservedByte};
 ghost use Rattle.memory.specs.Step.{reached};
+ghost use Rattle.memory.specs.Table.{byteAt};
 use descriptors::Stage1;
 use memory::step::Reached;
 use records::setup::Setup;
@@ -29,6 +30,17 @@ pub fn mair_byte(s: Setup, one: Stage1) -> u8
         return ((s.mair2 >> (8 * i)) % 256) as u8;
     }
     ((s.mair >> (8 * i)) % 256) as u8
+}
+
+// The byte at AttrIndx `k` of MAIR and MAIR2, where `w` is the control word.
+pub fn byte_at(w: u32, mair: u64, mair2: u64, k: usize) -> u8
+    ensures { λ r. ⌜ r ≡ byteAt w mair mair2 k ⌝ }
+{
+    let i = k % 8;
+    if ((w >> 12) % 2 == 1) & (8 <= k) {
+        return ((mair2 >> (8 * i)) % 256) as u8;
+    }
+    ((mair >> (8 * i)) % 256) as u8
 }
 
 // The byte with stage 1 off.

@@ -43,8 +43,8 @@ part-is (level.Refused n) c = refl
 
 module _ (q : Words) (l : Leaf) where
   -- a level's rights as the code has them
-  abbrev pub levelOf : Level → Mask
-  levelOf v =
+  abbrev pub maskOf : Level → Mask
+  maskOf v =
       maskWith (bitOf (controlOf (q .control) .overlay) v)
       (stage1Mask (stage1Pass (setupWith (q .control) (q .pir .privileged) (q .pir .unprivileged)) (stage1Of (l .stage1)) (limitsOf (l .limits))))
       (slotAt (registerOf (q .por) v) (poIndex (l .stage1))) (stage2Mask (stage2Pass (bit (q .control) 2) (stage2Of (l .stage2)))) v
@@ -59,12 +59,12 @@ module _ (q : Words) (l : Leaf) where
   abbrev answerOf : Level → LevelAnswer
   answerOf v = levels.levelOf (setupFrom q) (stage1Of (l .stage1)) (stage2Of (l .stage2)) (limitsOf (l .limits)) v
 
-  part-masks : (v : Level) → maskPart (levelOf v) checkAs ≡ levelPart (answerOf v) checkAs
+  part-masks : (v : Level) → maskPart (maskOf v) checkAs ≡ levelPart (answerOf v) checkAs
   part-masks v = ap (λ (m : Mask). maskPart m checkAs) (level-masks q (l .stage1) (l .stage2) (l .limits) v) ∙ part-is (answerOf v) checkAs
 
   -- the pass of a leaf that 5 does not refuse
   pub masked : leafCheck l ≡ answer.Permitted
-      → join (bit (q .control) 0) (maskPart (levelOf Privileged) checkAs) (maskPart (levelOf Unprivileged) checkAs) ≡ leafPass (setupFrom q) l
+      → join (bit (q .control) 0) (maskPart (maskOf Privileged) checkAs) (maskPart (maskOf Unprivileged) checkAs) ≡ leafPass (setupFrom q) l
   unfolding leafPass levels.levelsOf setupFrom controlOf
   masked e =
       ap₂ (join (bit (q .control) 0)) (part-masks Privileged) (part-masks Unprivileged)

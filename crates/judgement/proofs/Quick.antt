@@ -24,14 +24,14 @@ use Rattle.permissions.specs.declared.Mask.{Mask}
 use Rattle.permissions.specs.declared.Mask.the-variants.{Granted, Refused}
 use Rattle.levels.proofs.Masks.{slot-low}
 use Rattle.levels.specs.Pass.{stage1Pass, stage2Pass}
-use Rattle.levels.specs.Masks.{setupWith, stage1Mask, stage2Mask, bitsIn, appliesIn, slotTable, stage2Left, slotLeft, maskWith}
+use Rattle.levels.specs.Masks.{setupWith, stage1Mask, stage2Mask, bitsIn, appliesIn, slotTable, grants, stage2Left, slotLeft, maskWith}
 use Rattle.memory.proofs.Table.{passes-with}
 use Rattle.memory.specs.Table.{AttributeTable, passesWith}
 use Rattle.memory.specs.declared.Check.{Check}
 use Rattle.memory.specs.declared.Check.the-variants as check
 use Rattle.judgement.specs.Pass.{maskPart, join, leafPass}
 use Rattle.judgement.proofs.Masks.{checkAs, masked}
-use Rattle.judgement.specs.Quick.{grants, reserves, cover, overlaidBits, stage2Bits, checkedBits, below, bothBits, quickBits, quickFrom, SlotTable, quickOf}
+use Rattle.judgement.specs.Quick.{reserves, cover, overlaidBits, stage2Bits, checkedBits, below, bothBits, quickBits, quickFrom, SlotTable, quickOf}
 use Rattle.judgement.specs.declared.LeafRights.{LeafRights}
 use Rattle.judgement.specs.declared.LeafRights.the-variants.{Rights}
 

@@ -13,14 +13,11 @@ use Rattle.records.specs.declared.leaf.Leaf.{Leaf}
 use Rattle.records.specs.declared.setup.Words.{Words}
 use Rattle.permissions.specs.declared.Mask.{Mask}
 use Rattle.permissions.specs.declared.Mask.the-variants.{Granted, Refused}
-use Rattle.levels.specs.Masks.{setupWith, stage1Mask, stage2Mask, slotTable}
+use Rattle.levels.specs.Masks.{setupWith, stage1Mask, stage2Mask, grants}
 use Rattle.levels.specs.Pass.{stage1Pass, stage2Pass}
 use Rattle.memory.specs.Table.{passesWith}
 
--- what slot v of a level grants, everything where that level's overlay is off; and, as a mask, whether it is reserved
-abbrev pub grants : Bool → ℕ → ℕ
-grants on v = cond on (getD slotTable (v % 8) 0) 7
-
+-- that slot v of a level is reserved, as a mask
 abbrev pub reserves : Bool → ℕ → ℕ
 reserves on v = cond (on && leb 8 v) 7 0
 

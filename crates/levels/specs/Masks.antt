@@ -73,6 +73,10 @@ appliesIn m Unprivileged = bit m 7
 abbrev pub slotTable : List ℕ
 slotTable = 0 ∷ 1 ∷ 4 ∷ 5 ∷ 2 ∷ 3 ∷ 6 ∷ 7 ∷ []
 
+-- what slot v of a level grants, everything where no overlay applies
+abbrev pub grants : Bool → ℕ → ℕ
+grants on v = cond on (getD slotTable (v % 8) 0) 7
+
 -- the rights that stage 2 leaves; its refusal is met by an access that reaches it
 abbrev pub stage2Left : ℕ → Mask → Level → Mask
 stage2Left r (Granted g) l = Granted (bitAnd r (bitsIn g l))
@@ -81,7 +85,7 @@ stage2Left r (Refused n) l = cond (eqb r 0) (Granted 0) (Refused n)
 -- a reserved slot is met by an access that the base grants
 abbrev pub slotLeft : ℕ → Bool → ℕ → Mask → Level → Mask
 slotLeft r on v t l =
-    cond (on && leb 8 v && not (eqb r 0)) (Refused 6) (stage2Left (bitAnd r (cond on (getD slotTable (v % 8) 0) 7)) t l)
+    cond (on && leb 8 v && not (eqb r 0)) (Refused 6) (stage2Left (bitAnd r (grants on v)) t l)
 
 -- the level's rights with slot v, where `on` is whether that level's overlay is
 abbrev pub maskWith : Bool → Mask → ℕ → Mask → Level → Mask

@@ -28,7 +28,7 @@ top a b h k = at 2 (λ (n : ℕ). leb 8 (a + n * 8)) (λ (n : ℕ). eqb n 1) (ap
 low : (a b : ℕ) → a < 8 → (a + b * 8) % 8 ≡ a % 8
 low a b h = omega arith
 
-byte-is : (w m n d : ℕ) → byteAt w m n (attrIndxOf d) ≡ mairByte (setupWith w m n) (stage1Of d)
+pub byte-is : (w m n d : ℕ) → byteAt w m n (attrIndxOf d) ≡ mairByte (setupWith w m n) (stage1Of d)
 unfolding mairByte controlOf stage1Of
 byte-is w m n d =
     ap₂ (λ (b : Bool) (i : ℕ). field (cond (bit w 12 && b) n m) (8 * i) 8) (top (d / 2 ^ 2 % 8) (d / 2 ^ 59 % 2) (omega arith) (omega arith)) (low (d / 2 ^ 2 % 8) (d / 2 ^ 59 % 2) (omega arith))

@@ -2,12 +2,10 @@
 //
 // Words of a setup and descriptors go in as they stand: a number in a register costs less than the fields of a record.
 ghost use mathlib.Core.Path.{_≡_};
-ghost use mathlib.Core.Bool.{cond};
-ghost use lib.ListN.{getD};
-ghost use Prim.Native.Nat.{_%_, _<_};
+ghost use Prim.Native.Nat.{_<_};
 ghost use Rattle.descriptors.specs.Bits.{bit};
 ghost use Rattle.descriptors.specs.Descriptor.{stage1Of, stage2Of, limitsOf};
-ghost use Rattle.levels.specs.Masks.{setupWith, stage1Mask, stage2Mask, bitsIn, appliesIn, slotTable, stage2Left, slotLeft, maskWith};
+ghost use Rattle.levels.specs.Masks.{setupWith, stage1Mask, stage2Mask, bitsIn, appliesIn, grants, stage2Left, slotLeft, maskWith};
 ghost use Rattle.levels.specs.Pass.{stage1Pass, stage2Pass};
 use descriptors::index::PIIndex;
 use permissions::Mask;
@@ -97,7 +95,7 @@ fn stage2_left(r: u8, t: Mask, l: Level) -> Mask
 
 // What slot `v` grants; everything where no overlay applies.
 pub fn slot_bits(on: bool, v: u8) -> u8
-    ensures { λ r. ⌜ (r ≡ cond on (getD slotTable (v % 8) 0) 7) × (r < 8) ⌝ }
+    ensures { λ r. ⌜ (r ≡ grants on v) × (r < 8) ⌝ }
 {
     let i = (v % 8) as usize;
     if on {

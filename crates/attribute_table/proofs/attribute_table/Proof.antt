@@ -4,6 +4,7 @@ use mathlib.Core.Path.{_≡_, refl}
 use Prim.Native.Nat.{_-_, _≤_}
 use native.Mathlib.Omega.{arith}
 use lib.ListN.{length, length-set}
+use borrow.Author.Needs.{needs}
 use Rattle.records.proofs.Halves.{Filled, one-more}
 use Rattle.memory.specs.Table.{badByte, badCode}
 use Rattle.attribute_table.proofs.attribute_table.Statement.{statement}
@@ -19,7 +20,7 @@ loop-holds : tie.Need-loop-holds Inv-loop μ-loop
 loop-holds c = (omega arith, refl, λ j h. absurd (omega arith))
 
 bad-byte-requires : tie.Need-bad-byte-requires Inv-loop μ-loop
-bad-byte-requires c κs = omega arith
+bad-byte-requires c κs = search needs
 
 array-write-table : tie.Need-array-write-table Inv-loop μ-loop
 array-write-table c = omega arith

@@ -12,7 +12,9 @@ use Rattle.memory.specs.Shareability.{reservedSH}
 use Rattle.memory.specs.Step.{setupWith}
 use Rattle.memory.specs.Order.{checkOf}
 use Rattle.memory.specs.declared.Check.the-variants.{Passes, Refused}
+use native.Mathlib.Omega.{arith}
 use Rattle.memory.proofs.Laws.{check-is}
+use Rattle.memory.proofs.Table.{byte-is}
 use borrow.Author.Needs.{needs}
 use Rattle.attributes.proofs.check_attributes.Statement.{statement}
 use Rattle.attributes.proofs.check_attributes.Tie as tie
@@ -26,11 +28,17 @@ unfolding controlOf stage1Of stage2Of reservedByte reservedMemAttr memAttrOf res
 known c =
     let a = c .before .before .before .args in
     check-is (setupWith (a .w) (a .mair) (a .mair2)) (stage1Of (a .d)) (stage2Of (a .e)) _ _ _
-    (ap (λ (b : Bool). bit (a .w) 1 && not b) (sym (c .before .valid-byte .ensures ∙ ap (λ (n : ℕ). validByte n) (c .before .before .picked-byte .ensures))))
+    (ap (λ (b : Bool). bit (a .w) 1 && not b) (sym (c .before .valid-byte .ensures ∙ ap (λ (n : ℕ). validByte n) (c .before .before .byte-at .ensures ∙ byte-is (a .w) (a .mair) (a .mair2) (a .d)))))
     (ap (λ (b : Bool). bit (a .w) 2 && b) (sym (c .reserved-code .ensures))) refl
 
-picked-byte-requires : tie.Need-picked-byte-requires
-picked-byte-requires c κs = search needs
+mul-k : tie.Need-mul-k
+mul-k c = omega arith
+
+add-k : tie.Need-add-k
+add-k c = omega arith
+
+byte-at-requires : tie.Need-byte-at-requires
+byte-at-requires c κs = search needs
 
 valid-byte-requires : tie.Need-valid-byte-requires
 valid-byte-requires c κs = search needs
@@ -54,7 +62,9 @@ pub check-attributes-spec : {M : Type 1} → statement M
 check-attributes-spec =
     tie.close
     (tie.spec
-    picked-byte-requires
+    mul-k
+    add-k
+    byte-at-requires
     valid-byte-requires
     cast-reserved-code
     reserved-code-requires

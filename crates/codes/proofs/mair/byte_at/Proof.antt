@@ -1,7 +1,7 @@
--- `byte_at` meets its contract: the test picks the register. Assumes nothing.
+-- `mair::byte_at` meets its contract: the test picks the register. Assumes nothing.
 use borrow.Author.Needs.{needs}
-use Rattle.attribute_table.proofs.byte_at.Statement.{statement}
-use Rattle.attribute_table.proofs.byte_at.Tie as tie
+use Rattle.codes.proofs.mair.byte_at.Statement.{statement}
+use Rattle.codes.proofs.mair.byte_at.Tie as tie
 
 mul-result : tie.Need-mul-result
 mul-result c = search needs
