@@ -1,5 +1,5 @@
--- The rights of a leaf of which no access is refused, both levels at once, and 64 for any other leaf: private to the layer. The law `sound`
--- of proofs/Quick says that a number below 64 is the leaf's rights. Assumes nothing.
+-- The rights of a leaf, both levels at once, or a number from 64 on where an access may be refused: private to the layer. The law `sound` of
+-- proofs/Quick says that a number below 64 is the leaf's rights. Assumes nothing.
 use Prim.Native.Nat.{ℕ, _+_, _-_, _*_, _/_, _%_, _^_, _<_}
 use mathlib.Core.Path.{_≡_}
 use mathlib.Core.Bool.{Bool, cond, not, _&&_, _||_}
@@ -36,11 +36,12 @@ cover m = m / 2 ^ 6 % 2 * 7 + m / 2 ^ 7 % 2 * 56
 abbrev pub overlaidBits : ℕ → ℕ → ℕ → ℕ
 overlaidBits m g r = cond (eqb (bitAnd (bitAnd m (cover m)) r) 0) (bitAnd m (bitOr g (63 - cover m))) 64
 
+-- the rights that stage 2 leaves
 abbrev pub stage2Bits : ℕ → Mask → ℕ
 stage2Bits o (Granted s) = bitAnd o s
 stage2Bits o (Refused n) = cond (eqb o 0) 0 64
 
--- the attribute steps, which refuse nothing where `passes`, and the levels that are there
+-- the attribute steps, which refuse nothing where `passes`: else bit 6 marks rights that reach them. With one level bits 3 to 5 are 0
 abbrev pub checkedBits : Bool → ℕ → Bool → ℕ
 checkedBits two s passes = bitOr (cond two s (s % 8)) (cond (not passes && not (eqb s 0)) 1 0 * 64)
 

@@ -1,5 +1,5 @@
-// The rights of a leaf of which no access is refused, both levels at once; 64 for any other leaf, which `leaves` judges. Part of the judge. No
-// public function has a `requires`.
+// The rights of a leaf, both levels at once; or a number from 64 on where an access may be refused, and `leaves` judges the leaf. Part of the
+// judge. No public function has a `requires`.
 ghost use mathlib.Core.Path.{_≡_};
 ghost use mathlib.Core.Bool.{cond};
 ghost use Prim.Native.Nat.{_%_, _<_};
@@ -65,6 +65,7 @@ fn overlaid_bits(m: u8, g: u8, r: u8) -> u8
     64
 }
 
+// The rights that stage 2 leaves.
 fn stage2_bits(o: u8, t: Mask) -> u8
     ensures { λ x. ⌜ x ≡ stage2Bits o t ⌝ }
 {
@@ -79,7 +80,7 @@ fn stage2_bits(o: u8, t: Mask) -> u8
     }
 }
 
-// The levels that are there.
+// With one level bits 3 to 5 are 0.
 fn shown_bits(two: bool, s: u8) -> u8
     ensures { λ x. ⌜ x ≡ cond two s (s % 8) ⌝ }
 {
@@ -89,7 +90,8 @@ fn shown_bits(two: bool, s: u8) -> u8
     s % 8
 }
 
-// The attribute steps, which refuse nothing where `passes`: no branch, since what is refused is not foreseen.
+// The attribute steps, which refuse nothing where `passes`: else bit 6 marks rights that reach them. There is no branch, since no processor
+// predicts which leaves have rights.
 fn checked_bits(two: bool, s: u8, passes: bool) -> u8
     ensures { λ x. ⌜ x ≡ checkedBits two s passes ⌝ }
 {
@@ -108,7 +110,7 @@ fn both_bits(m: u8, g: u8, r: u8, t: Mask) -> u8
     stage2_bits(o, t)
 }
 
-// The rights of a leaf by the words of the setup, the table of its slots and its table of attributes; or 64.
+// The rights of a leaf by the words of the setup, the table of its slots and its table of attributes; or a number from 64 on.
 pub fn quick_rights(q: Words, slots: &[u8; 16], attributes: &[u8; 32], l: Leaf) -> u8
     ensures { λ x. ⌜ x ≡ quickOf q (now (slots .entry)) (now (attributes .entry)) l ⌝ }
 {
