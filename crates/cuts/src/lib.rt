@@ -1,7 +1,8 @@
 // What one leaf asks of the register. Part of the planner. No public function has a `requires`.
 ghost use mathlib.Core.Path.{_≡_};
 ghost use Rattle.records.specs.Setup.{setupFrom};
-ghost use Rattle.plan.specs.Plan.{refusalOf, forbiddenBits, maskPlan, leafPlanOf};
+ghost use Rattle.plan.specs.Masks.{forbiddenBits, maskPlan};
+ghost use Rattle.plan.specs.Plan.{refusalOf, leafPlanOf};
 use checks::answer::Answer;
 use levels::RangeMask;
 use plan::LeafPlan;

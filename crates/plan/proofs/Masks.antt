@@ -15,7 +15,8 @@ use Rattle.levels.proofs.Masks.{and-bits, any-bits}
 use Rattle.levels.specs.Masks.{levelBits, rangeMask}
 use Rattle.levels.specs.declared.LevelRange.{LevelRange}
 use Rattle.levels.specs.declared.LevelRange.the-variants as range
-use Rattle.plan.specs.Plan.{forbiddenRights, common, rangePlan, forbiddenBits, slotOrder, maskPlan}
+use Rattle.plan.specs.Masks.{forbiddenBits, slotOrder, maskPlan}
+use Rattle.plan.specs.Plan.{forbiddenRights, common, rangePlan}
 use Rattle.plan.specs.Register.{slotNumber}
 use Rattle.plan.specs.declared.LeafPlan.the-variants.{Cut}
 

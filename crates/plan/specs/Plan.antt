@@ -1,9 +1,8 @@
 -- Document 01, 'The planner' and the planner's sentences of 'The order a judgement is made in': the checks 13, 1, 2, 3, 4, 12, 11; leaf by
 -- leaf 5, 6 and 7; then 10; then the register. Assumes nothing.
-use Prim.Native.Nat.{ℕ, zero, suc, _+_, _*_, _/_, _%_, _^_}
-use mathlib.Core.List.{List, [], _∷_}
-use mathlib.Core.Bool.{Bool, false, cond, not, _&&_, _||_}
-use lib.Bits.{bitAnd}
+use Prim.Native.Nat.{ℕ, zero, suc, _*_, _/_, _%_}
+use mathlib.Core.List.{List}
+use mathlib.Core.Bool.{Bool, false, cond, _&&_, _||_}
 use lib.Dec.{eqb, leb, ltb}
 use lib.ListN.{length, getD, take, drop, set, replicate}
 use Rattle.descriptors.specs.Bits.{bit}
@@ -11,7 +10,6 @@ use Rattle.records.specs.Leaf.{readLeaf}
 use Rattle.descriptors.specs.Descriptor.{stage1Of, stage2Of, limitsOf}
 use Rattle.records.specs.Setup.{readSetup}
 use Rattle.records.specs.declared.access.Level.{Level}
-use Rattle.records.specs.declared.access.Level.the-variants.{Privileged, Unprivileged}
 use Rattle.records.specs.declared.access.Right.the-variants.{Read, Write, Execute}
 use Rattle.records.specs.declared.leaf.LeafRead.{LeafRead}
 use Rattle.records.specs.declared.leaf.LeafRead.the-variants as leaf
@@ -27,8 +25,6 @@ use Rattle.checks.specs.declared.checks.LevelCheck.{LevelCheck}
 use Rattle.checks.specs.declared.checks.LevelCheck.the-variants as level
 use Rattle.levels.specs.declared.LevelRange.{LevelRange}
 use Rattle.levels.specs.declared.LevelRange.the-variants as range
-use Rattle.levels.specs.declared.RangeMask.{RangeMask}
-use Rattle.levels.specs.declared.RangeMask.the-variants as mask
 use Rattle.stages.specs.declared.level.LevelRights.{LevelRights}
 use Rattle.plan.specs.Register.{accessNumber, slotNumber, cutMask, packFrom}
 use Rattle.plan.specs.declared.Plan.{Plan}
@@ -93,20 +89,6 @@ abbrev pub rangePlan : ℕ → Level → LevelRange → LeafPlan
 rangePlan f l (range.Refused n) = plan.Refused n
 rangePlan f l (range.Range k full bare) =
     plan.Cut k (slotNumber (common (forbiddenRights f l) full)) (any (common (forbiddenRights f l) bare))
-
--- the same from rights as bits 0 to 2, as the code has it: the level's forbidden bits, a slot's bits in their order R, X, W by the bits of
--- the rights, and the plan. The law `mask-plan` of proofs/Masks says that it is `rangePlan`
-abbrev pub forbiddenBits : ℕ → Level → ℕ
-forbiddenBits f Privileged = f / 2 ^ 0 % 2 + f / 2 ^ 1 % 2 * 2 + f / 2 ^ 2 % 2 * 4
-forbiddenBits f Unprivileged = f / 2 ^ 3 % 2 + f / 2 ^ 4 % 2 * 2 + f / 2 ^ 5 % 2 * 4
-
-abbrev pub slotOrder : List ℕ
-slotOrder = 0 ∷ 1 ∷ 4 ∷ 5 ∷ 2 ∷ 3 ∷ 6 ∷ 7 ∷ []
-
-abbrev pub maskPlan : ℕ → Level → RangeMask → LeafPlan
-maskPlan f l (mask.Refused n) = plan.Refused n
-maskPlan f l (mask.Range k full bare) =
-    plan.Cut k (getD slotOrder (bitAnd (forbiddenBits f l) full % 8) 0) (not (eqb (bitAnd (forbiddenBits f l) bare) 0))
 
 -- 5, then the 6 or 7 that an access of that level meets with 77777777 in place of that level's POR. Bytes that are no leaf give 13
 abbrev pub leafPlan : Setup → Level → LeafRead → LeafPlan
