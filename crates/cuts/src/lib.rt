@@ -1,8 +1,7 @@
 // What one leaf asks of the register. Part of the planner. No public function has a `requires`.
 ghost use mathlib.Core.Path.{_≡_};
-ghost use Rattle.records.specs.Setup.{setupFrom};
-ghost use Rattle.plan.specs.Masks.{forbiddenBits, maskPlan};
-ghost use Rattle.plan.specs.Plan.{refusalOf, leafPlanOf};
+ghost use Rattle.plan.specs.Masks.{forbiddenBits, maskPlan, planBy};
+ghost use Rattle.plan.specs.Plan.{refusalOf};
 use checks::answer::Answer;
 use levels::RangeMask;
 use plan::LeafPlan;
@@ -52,9 +51,9 @@ fn range_plan(forbidden: u8, l: Level, range: RangeMask) -> LeafPlan
     }
 }
 
-// 5, then the 6 or 7 that an access of the level meets with 77777777 in place of that level's POR.
-pub fn plan_leaf(q: Words, l: Level, leaf: &[u8]) -> LeafPlan
-    ensures { λ r. ⌜ r ≡ leafPlanOf (setupFrom q) l (now (leaf .entry)) ⌝ }
+// 5, then the 6 or 7 that an access of the level meets with 77777777 in place of that level's POR; `base` is the setup's table for stage 1.
+pub fn plan_leaf(q: Words, base: &[u16; 16], l: Level, leaf: &[u8]) -> LeafPlan
+    ensures { λ r. ⌜ r ≡ planBy q (now (base .entry)) l (now (leaf .entry)) ⌝ }
 {
     let read = records::leaf::read_leaf(leaf);
     let LeafRead::Read(f) = read else {
@@ -67,6 +66,6 @@ pub fn plan_leaf(q: Words, l: Level, leaf: &[u8]) -> LeafPlan
     range_plan(
         f.forbidden,
         l,
-        range::level_range(q, f.stage1, f.stage2, f.limits, l),
+        range::level_range(q, base, f.stage1, f.stage2, f.limits, l),
     )
 }

@@ -105,9 +105,12 @@ stage2Of d = record {
   bit51 = bit51 d;
 }
 
--- the base code that a PIIndex picks in a PIR
+-- the place of the base code that a PIIndex picks, 0 to 15, and the code in a PIR
+abbrev pub codePlace : PIIndex → ℕ
+codePlace i = i .0 % 16
+
 abbrev pub codeAt : ℕ → PIIndex → ℕ
-codeAt pir i = nibble pir (i .0 % 16)
+codeAt pir i = nibble pir (codePlace i)
 
 -- the place of the overlay slot that a POIndex picks, 0 to 7, and the slot in a POR
 abbrev pub placeOf : POIndex → ℕ

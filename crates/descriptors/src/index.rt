@@ -1,7 +1,7 @@
 // PIIndex picks a base code and POIndex picks an overlay slot. Their fields are private and descriptor decoding alone
 // makes them, so that neither can stand where the other belongs.
 ghost use mathlib.Core.Path.{_≡_};
-ghost use Rattle.descriptors.specs.Descriptor.{piIndex, poIndex, codeAt, placeOf, slotAt};
+ghost use Rattle.descriptors.specs.Descriptor.{piIndex, poIndex, codePlace, codeAt, placeOf, slotAt};
 
 pub struct PIIndex(u8);
 
@@ -21,6 +21,14 @@ impl PIIndex {
     {
         let i = self.0;
         ((pir >> (4 * (i % 16))) % 16) as u8
+    }
+
+    // The place of that code, 0 to 15.
+    pub fn place(self) -> usize
+        ensures { λ r. ⌜ r ≡ codePlace self ⌝ }
+    {
+        let i = self.0;
+        (i % 16) as usize
     }
 }
 

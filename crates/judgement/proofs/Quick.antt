@@ -1,4 +1,4 @@
--- The quick rights of a leaf are its rights. What is done to both levels at once is done to each: `bitsIn` takes a level's part of a number,
+-- The quick rights of a leaf are those of the pass. What is done to both levels at once is done to each: `bitsIn` takes a level's part of a number,
 -- and goes through `bitAnd` and `bitOr`. Assumes nothing.
 use mathlib.Core.Path.{_≡_, refl, sym, ap, ap₂, _∙_, subst}
 use mathlib.Core.Bool.{Bool, true, false, cond, not, _&&_, _||_}
@@ -13,24 +13,26 @@ use borrow.Author.Tests.{eqb-true, eq-eqb, leb-false}
 use Rattle.records.proofs.Cases.{at, each, each-digit}
 use Rattle.records.specs.declared.access.Level.{Level}
 use Rattle.records.specs.declared.access.Level.the-variants.{Privileged, Unprivileged}
-use Rattle.records.specs.Setup.{controlOf, setupFrom}
+use Rattle.records.specs.Setup.{controlOf}
 use Rattle.records.specs.declared.leaf.Leaf.{Leaf}
 use Rattle.records.specs.declared.setup.Words.{Words}
 use Rattle.checks.specs.Checks.{leafCheck}
+use Rattle.checks.specs.declared.answer.Answer.{Answer}
+use Rattle.checks.specs.declared.answer.Answer.the-variants as answer
 use Rattle.stages.specs.Overlay.{bitOf, registerOf}
 use Rattle.descriptors.specs.Bits.{bit}
-use Rattle.descriptors.specs.Descriptor.{stage1Of, stage2Of, limitsOf, poIndex, placeOf, slotAt}
+use Rattle.descriptors.specs.Descriptor.{stage2Of, poIndex, placeOf, slotAt}
 use Rattle.permissions.specs.declared.Mask.{Mask}
 use Rattle.permissions.specs.declared.Mask.the-variants.{Granted, Refused}
 use Rattle.levels.proofs.Masks.{slot-low}
-use Rattle.levels.specs.Pass.{stage1Pass, stage2Pass}
-use Rattle.levels.specs.Masks.{setupWith, stage1Mask, stage2Mask, bitsIn, appliesIn, slotTable, grants, stage2Left, slotLeft, maskWith}
+use Rattle.levels.specs.Pass.{stage2Pass}
+use Rattle.levels.specs.Masks.{stage2Mask, bitsIn, appliesIn, slotTable, grants, stage2Left, slotLeft, maskWith}
+use Rattle.levels.specs.Table.{stage1With}
 use Rattle.memory.proofs.Table.{passes-with}
 use Rattle.memory.specs.Table.{AttributeTable, passesWith}
 use Rattle.memory.specs.declared.Check.{Check}
 use Rattle.memory.specs.declared.Check.the-variants as check
-use Rattle.judgement.specs.Pass.{maskPart, join, leafPass}
-use Rattle.judgement.proofs.Masks.{checkAs, masked}
+use Rattle.judgement.specs.Pass.{maskPart, join, afterCheck, checkBy, passFrom, leafBy}
 use Rattle.judgement.specs.Quick.{reserves, cover, overlaidBits, stage2Bits, checkedBits, below, bothBits, quickBits, quickFrom, SlotTable, quickOf}
 use Rattle.judgement.specs.declared.LeafRights.{LeafRights}
 use Rattle.judgement.specs.declared.LeafRights.the-variants.{Rights}
@@ -218,7 +220,7 @@ reserves-small on v = go (on && leb 8 v)
 pair-in : (a b : ℕ) → a < 8 → b < 8 → ((a + 8 * b) % 8 ≡ a) × ((a + 8 * b) / 2 ^ 3 % 8 ≡ b)
 pair-in a b ha hb = (omega arith, omega arith)
 
-module _ (q : Words) (l : Leaf) (t a : List ℕ) (h : SlotTable (q .control) (q .por .privileged) (q .por .unprivileged) t)
+module _ (q : Words) (l : Leaf) (b t a : List ℕ) (h : SlotTable (q .control) (q .por .privileged) (q .por .unprivileged) t)
     (g : AttributeTable (q .control) (q .mair) (q .mair2) a) where
   abbrev place : ℕ
   place = placeOf (poIndex (l .stage1))
@@ -240,7 +242,7 @@ module _ (q : Words) (l : Leaf) (t a : List ℕ) (h : SlotTable (q .control) (q 
   reserves-in Unprivileged = ap (λ (n : ℕ). n / 2 ^ 3 % 8) (h place (omega arith) .1) ∙ pair-in _ _ (reserves-small (bit (q .control) 4) (slot Privileged)) (reserves-small (bit (q .control) 5) (slot Unprivileged)) .1
 
   abbrev first : Mask
-  first = stage1Mask (stage1Pass (setupWith (q .control) (q .pir .privileged) (q .pir .unprivileged)) (stage1Of (l .stage1)) (limitsOf (l .limits)))
+  first = stage1With b (q .control) (l .stage1) (l .limits)
 
   abbrev second : Mask
   second = stage2Mask (stage2Pass (bit (q .control) 2) (stage2Of (l .stage2)))
@@ -249,26 +251,31 @@ module _ (q : Words) (l : Leaf) (t a : List ℕ) (h : SlotTable (q .control) (q 
   abbrev quick : ℕ
   quick = quickFrom (bit (q .control) 0) first (getD t place 0) (getD t (place + 8) 0) second (passesWith a (q .control) (l .stage1) (l .stage2))
 
-  -- quick rights below 64 are the leaf's
-  pub sound : quickOf q t a l < 64 → leafPass (setupFrom q) l ≡ Rights (quickOf q t a l)
-  unfolding quickOf leafCheck
+  permitted : (ltb 15 (l .limits) || ltb 63 (l .forbidden)) ≡ false → leafCheck l ≡ answer.Permitted
+  unfolding leafCheck
+  permitted e = rw e
+
+  -- quick rights below 64 are what the pass gives
+  pub sound : quickOf q b t a l < 64 → leafBy q b l ≡ Rights (quickOf q b t a l)
+  unfolding quickOf leafBy
   sound k = go (ltb 15 (l .limits) || ltb 63 (l .forbidden)) refl k
     where
-      go : (b : Bool) → (ltb 15 (l .limits) || ltb 63 (l .forbidden)) ≡ b → cond b 64 quick < 64 → leafPass (setupFrom q) l ≡ Rights (cond b 64 quick)
+      go : (x : Bool) → (ltb 15 (l .limits) || ltb 63 (l .forbidden)) ≡ x → cond x 64 quick < 64
+          → afterCheck (leafCheck l) (passFrom q l first) ≡ Rights (cond x 64 quick)
       go true e k = absurd (omega arith)
       go false e k =
-          sym (masked q l (rw e))
-          ∙ sound-from on slot (getD t place 0) (getD t (place + 8) 0) grants-in reserves-in (bit (q .control) 0) first second (checkAs q l) (passesWith a (q .control) (l .stage1) (l .stage2))
+          ap (λ (y : Answer). afterCheck y (passFrom q l first)) (permitted e)
+          ∙ sound-from on slot (getD t place 0) (getD t (place + 8) 0) grants-in reserves-in (bit (q .control) 0) first second (checkBy q l) (passesWith a (q .control) (l .stage1) (l .stage2))
           (passes-with a (q .control) (q .mair) (q .mair2) (l .stage1) (l .stage2) g) k
 
 -- the quick rights of a leaf whose rights by both stages are s
-pub quick-known : (q : Words) (t a : List ℕ) (l : Leaf) (m s : ℕ) → (ltb 15 (l .limits) || ltb 63 (l .forbidden)) ≡ false
-    → stage1Mask (stage1Pass (setupWith (q .control) (q .pir .privileged) (q .pir .unprivileged)) (stage1Of (l .stage1)) (limitsOf (l .limits))) ≡ Granted m
+pub quick-known : (q : Words) (b t a : List ℕ) (l : Leaf) (m s : ℕ) → (ltb 15 (l .limits) || ltb 63 (l .forbidden)) ≡ false
+    → stage1With b (q .control) (l .stage1) (l .limits) ≡ Granted m
     → bothBits m (getD t (placeOf (poIndex (l .stage1))) 0) (getD t (placeOf (poIndex (l .stage1)) + 8) 0) (stage2Mask (stage2Pass (bit (q .control) 2) (stage2Of (l .stage2)))) ≡ s
-    → quickOf q t a l ≡ quickBits (bit (q .control) 0) s (passesWith a (q .control) (l .stage1) (l .stage2))
+    → quickOf q b t a l ≡ quickBits (bit (q .control) 0) s (passesWith a (q .control) (l .stage1) (l .stage2))
 unfolding quickOf
-quick-known q t a l m s p e k =
-    ap₂ (λ (b : Bool) (x : Mask). cond b 64 (quickFrom (bit (q .control) 0) x (getD t (placeOf (poIndex (l .stage1))) 0) (getD t (placeOf (poIndex (l .stage1)) + 8) 0) (stage2Mask (stage2Pass (bit (q .control) 2) (stage2Of (l .stage2)))) (passesWith a (q .control) (l .stage1) (l .stage2)))) p e
+quick-known q b t a l m s p e k =
+    ap₂ (λ (y : Bool) (x : Mask). cond y 64 (quickFrom (bit (q .control) 0) x (getD t (placeOf (poIndex (l .stage1))) 0) (getD t (placeOf (poIndex (l .stage1)) + 8) 0) (stage2Mask (stage2Pass (bit (q .control) 2) (stage2Of (l .stage2)))) (passesWith a (q .control) (l .stage1) (l .stage2)))) p e
     ∙ ap (λ (n : ℕ). quickBits (bit (q .control) 0) n (passesWith a (q .control) (l .stage1) (l .stage2))) k
 
 -- a truth value as a number

@@ -1,16 +1,25 @@
 -- One pass over a leaf, as the code makes it: private to the layer. The law `agree` of proofs/Agree says that it gives `leafRights` where
--- no check of the setup refuses. Assumes nothing.
+-- no check of the setup refuses, `leaf-by` of proofs/Masks that the pass over words gives the pass. Assumes nothing.
 use Prim.Native.Nat.{ℕ, _+_, _*_, _%_, _<_}
 use mathlib.Core.Bool.{Bool, cond}
+use mathlib.Core.List.{List}
 use lib.Dec.{eqb}
-use Rattle.descriptors.specs.Descriptor.{stage1Of, stage2Of, limitsOf}
+use Rattle.descriptors.specs.Bits.{bit}
+use Rattle.descriptors.specs.Descriptor.{stage1Of, stage2Of, limitsOf, poIndex, slotAt}
+use Rattle.records.specs.Setup.{controlOf}
+use Rattle.records.specs.declared.access.Level.{Level}
+use Rattle.records.specs.declared.access.Level.the-variants.{Privileged, Unprivileged}
 use Rattle.records.specs.declared.leaf.Leaf.{Leaf}
 use Rattle.records.specs.declared.setup.Setup.{Setup}
+use Rattle.records.specs.declared.setup.Words.{Words}
 use Rattle.permissions.specs.declared.Mask.{Mask}
 use Rattle.permissions.specs.declared.Mask.the-variants as mask
 use Rattle.checks.specs.Checks.{leafCheck}
 use Rattle.levels.specs.Level.{levelsOf}
-use Rattle.levels.specs.Masks.{levelBits}
+use Rattle.levels.specs.Masks.{levelBits, stage2Mask, maskWith}
+use Rattle.levels.specs.Pass.{stage2Pass}
+use Rattle.levels.specs.Table.{stage1With}
+use Rattle.stages.specs.Overlay.{bitOf, registerOf}
 use Rattle.checks.specs.declared.answer.Answer.{Answer}
 use Rattle.checks.specs.declared.answer.Answer.the-variants as answer
 use Rattle.levels.specs.declared.LeafLevels.{LeafLevels}
@@ -18,6 +27,7 @@ use Rattle.stages.specs.declared.level.LevelAnswer.{LevelAnswer}
 use Rattle.stages.specs.declared.level.LevelAnswer.the-variants as level
 use Rattle.stages.specs.declared.level.LevelRights.{LevelRights}
 use Rattle.memory.specs.Order.{checkOf}
+use Rattle.memory.specs.Step.{setupWith}
 use Rattle.memory.specs.declared.Check.{Check}
 use Rattle.memory.specs.declared.Check.the-variants as check
 use Rattle.judgement.specs.declared.LeafRights.{LeafRights}
@@ -66,3 +76,19 @@ leafPass s l =
     afterCheck (leafCheck l)
     (passLevels (s .control .two) (levelsOf s (stage1Of (l .stage1)) (stage2Of (l .stage2)) (limitsOf (l .limits)))
     (checkOf s (stage1Of (l .stage1)) (stage2Of (l .stage2))))
+
+-- a level's rights by the words of the setup, where stage 1 gives x
+abbrev pub leafMask : Words → Leaf → Mask → Level → Mask
+leafMask q l x v =
+    maskWith (bitOf (controlOf (q .control) .overlay) v) x (slotAt (registerOf (q .por) v) (poIndex (l .stage1)))
+    (stage2Mask (stage2Pass (bit (q .control) 2) (stage2Of (l .stage2)))) v
+
+abbrev pub checkBy : Words → Leaf → Check
+checkBy q l = checkOf (setupWith (q .control) (q .mair) (q .mair2)) (stage1Of (l .stage1)) (stage2Of (l .stage2))
+
+abbrev pub passFrom : Words → Leaf → Mask → LeafRights
+passFrom q l x = join (bit (q .control) 0) (maskPart (leafMask q l x Privileged) (checkBy q l)) (maskPart (leafMask q l x Unprivileged) (checkBy q l))
+
+-- the pass by the words of the setup, where b is its table for stage 1
+unfoldable pub leafBy : Words → List ℕ → Leaf → LeafRights
+leafBy q b l = afterCheck (leafCheck l) (passFrom q l (stage1With b (q .control) (l .stage1) (l .limits)))

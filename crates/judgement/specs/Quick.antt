@@ -1,5 +1,5 @@
 -- The rights of a leaf, both levels at once, or a number from 64 on where an access may be refused: private to the layer. The law `sound` of
--- proofs/Quick says that a number below 64 is the leaf's rights. Assumes nothing.
+-- proofs/Quick says that a number below 64 is what the pass gives. Assumes nothing.
 use Prim.Native.Nat.{ℕ, _+_, _-_, _*_, _/_, _%_, _^_, _<_}
 use mathlib.Core.Path.{_≡_}
 use mathlib.Core.Bool.{Bool, cond, not, _&&_, _||_}
@@ -8,13 +8,14 @@ use lib.Bits.{bitAnd, bitOr}
 use lib.Dec.{eqb, leb, ltb}
 use lib.ListN.{getD}
 use Rattle.descriptors.specs.Bits.{bit, nibble}
-use Rattle.descriptors.specs.Descriptor.{stage1Of, stage2Of, limitsOf, poIndex, placeOf}
+use Rattle.descriptors.specs.Descriptor.{stage2Of, poIndex, placeOf}
 use Rattle.records.specs.declared.leaf.Leaf.{Leaf}
 use Rattle.records.specs.declared.setup.Words.{Words}
 use Rattle.permissions.specs.declared.Mask.{Mask}
 use Rattle.permissions.specs.declared.Mask.the-variants.{Granted, Refused}
-use Rattle.levels.specs.Masks.{setupWith, stage1Mask, stage2Mask, grants}
-use Rattle.levels.specs.Pass.{stage1Pass, stage2Pass}
+use Rattle.levels.specs.Masks.{stage2Mask, grants}
+use Rattle.levels.specs.Pass.{stage2Pass}
+use Rattle.levels.specs.Table.{stage1With}
 use Rattle.memory.specs.Table.{passesWith}
 
 -- that slot v of a level is reserved, as a mask
@@ -64,12 +65,12 @@ quickFrom two (Refused n) g r t c = 64
 abbrev pub SlotTable : ℕ → ℕ → ℕ → List ℕ → Type 0
 SlotTable w p u t = (k : ℕ) → k < 8 → (getD t k 0 ≡ grantsAt w p u k) × (getD t (k + 8) 0 ≡ reservesAt w p u k)
 
--- a leaf's rights by the words of the setup, where t is the table of its slots and a its table of attributes
-unfoldable pub quickOf : Words → List ℕ → List ℕ → Leaf → ℕ
-quickOf q t a l =
+-- a leaf's rights by the words of the setup, where b is its table for stage 1, t the table of its slots and a of its attributes
+unfoldable pub quickOf : Words → List ℕ → List ℕ → List ℕ → Leaf → ℕ
+quickOf q b t a l =
     cond (ltb 15 (l .limits) || ltb 63 (l .forbidden)) 64
     (quickFrom (bit (q .control) 0)
-    (stage1Mask (stage1Pass (setupWith (q .control) (q .pir .privileged) (q .pir .unprivileged)) (stage1Of (l .stage1)) (limitsOf (l .limits))))
+    (stage1With b (q .control) (l .stage1) (l .limits))
     (getD t (placeOf (poIndex (l .stage1))) 0) (getD t (placeOf (poIndex (l .stage1)) + 8) 0)
     (stage2Mask (stage2Pass (bit (q .control) 2) (stage2Of (l .stage2))))
     (passesWith a (q .control) (l .stage1) (l .stage2)))

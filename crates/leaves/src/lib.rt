@@ -1,7 +1,6 @@
 // All rights of a leaf, in one pass, with the attribute steps once. Part of the judge. No public function has a `requires`.
 ghost use mathlib.Core.Path.{_≡_};
-ghost use Rattle.records.specs.Setup.{setupFrom};
-ghost use Rattle.judgement.specs.Pass.{maskPart, Below, join, afterCheck, leafPass};
+ghost use Rattle.judgement.specs.Pass.{maskPart, Below, join, afterCheck, leafBy};
 use checks::answer::Answer;
 use descriptors::index::POIndex;
 use judgement::LeafRights;
@@ -61,9 +60,9 @@ fn check_refusal(a: Answer) -> LeafRights
     }
 }
 
-// 5, then all rights of both levels at once.
-pub fn leaf_rights(q: Words, l: Leaf) -> LeafRights
-    ensures { λ x. ⌜ x ≡ leafPass (setupFrom q) l ⌝ }
+// 5, then all rights of both levels at once; `base` is the setup's table for stage 1.
+pub fn leaf_rights(q: Words, base: &[u16; 16], l: Leaf) -> LeafRights
+    ensures { λ x. ⌜ x ≡ leafBy q (now (base .entry)) l ⌝ }
 {
     let check = checks::checks::check_leaf(l);
     let Answer::Permitted = check else {
@@ -72,7 +71,7 @@ pub fn leaf_rights(q: Words, l: Leaf) -> LeafRights
     let w = q.control;
     let d = l.stage1;
     let e = l.stage2;
-    let first = pass::stage1_mask(w, q.pir.privileged, q.pir.unprivileged, d, l.limits);
+    let first = base_table::mask_of(base_table::stage1_word(base, w, d, l.limits));
     let second = pass::stage2_mask(w, e);
     let i = POIndex::of(d);
     let p = i.slot(q.por.privileged);

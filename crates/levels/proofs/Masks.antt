@@ -82,6 +82,10 @@ module _ (b : Base) where
   applies-base Privileged = each values (λ (m : List Bool). appliesIn (baseAt m) Privileged) (λ (m : List Bool). pick m 6) refl
   applies-base Unprivileged = each values (λ (m : List Bool). appliesIn (baseAt m) Unprivileged) (λ (m : List Bool). pick m 7) refl
 
+  -- they are a byte
+  pub base-small : baseBits b < 256
+  base-small = ltb-true _ _ (each values (λ (m : List Bool). ltb (baseAt m) 256) (λ (m : List Bool). true) refl)
+
 -- rights of two levels in common, and whether there are any: truth values 0 to 2 and 3 to 5
 abbrev low : List Bool → LevelRights
 low m = three (pick m 0) (pick m 1) (pick m 2)
@@ -164,6 +168,11 @@ all-overlaid : (r : Rights) → bitOr (sixMask r) 192 ≡ sixMask r + 64 * 1 + 1
 all-overlaid r =
     each (r .pr ∷ r .pw ∷ r .px ∷ r .ur ∷ r .uw ∷ r .ux ∷ []) (λ (m : List Bool). bitOr (sixMask (sixAt m)) 192)
     (λ (m : List Bool). sixMask (sixAt m) + 64 * 1 + 128 * 1) refl
+
+pub six-small : (r : Rights) → bitOr (sixMask r) 192 < 256
+six-small r =
+    ltb-true _ _
+    (each (r .pr ∷ r .pw ∷ r .px ∷ r .ur ∷ r .uw ∷ r .ux ∷ []) (λ (m : List Bool). ltb (bitOr (sixMask (sixAt m)) 192) 256) (λ (m : List Bool). true) refl)
 
 -- stage 2's table: digits 0 and 1 S2AP, and XN
 abbrev tabled : ℕ → List ℕ → ℕ

@@ -4,6 +4,7 @@ use mathlib.Core.List.{List}
 use lib.ListN.{take}
 use Rattle.records.specs.declared.setup.Setup.{Setup}
 use Rattle.records.specs.declared.setup.Words.{Words}
+use Rattle.levels.specs.Table.{BaseTable}
 use Rattle.memory.specs.Table.{AttributeTable}
 use Rattle.judgement.specs.List.{Walk, bytes, refused, leafAt}
 use Rattle.judgement.specs.Pass.{leafPass}
@@ -15,8 +16,11 @@ use Rattle.lists.specs.declared.Walked.{Walked}
 use Rattle.lists.specs.declared.Walked.the-variants.{All, Refused}
 
 -- the tables of a setup's words
-abbrev pub Tables : Words → List ℕ → List ℕ → Type 0
-Tables q t a = SlotTable (q .control) (q .por .privileged) (q .por .unprivileged) t × AttributeTable (q .control) (q .mair) (q .mair2) a
+abbrev pub Tables : Words → List ℕ → List ℕ → List ℕ → Type 0
+Tables q b t a =
+    BaseTable (q .control) (q .pir .privileged) (q .pir .unprivileged) b
+    × SlotTable (q .control) (q .por .privileged) (q .por .unprivileged) t
+    × AttributeTable (q .control) (q .mair) (q .mair2) a
 
 -- the pass over leaf i
 unfoldable pub passAt : Setup → List ℕ → ℕ → LeafRights

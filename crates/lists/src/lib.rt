@@ -8,6 +8,7 @@ ghost use Rattle.judgement.specs.Demands.{ListDemands};
 ghost use Rattle.judgement.specs.List.{walk, numberOf, listOf};
 ghost use Rattle.lists.specs.Walked.{Tables, passAt, walkIn, refusedOf};
 use attribute_table::attribute_table;
+use base_table::base_table;
 use checks::answer::Answer;
 use judgement::LeafRights;
 use judgement::Listed;
@@ -24,9 +25,16 @@ enum Walked {
     Refused(u8, usize),
 }
 
-// The rights of leaf `i`, where `slots` and `attributes` are the setup's tables: quick where no access is refused.
-fn pass_at(q: Words, slots: &[u8; 16], attributes: &[u8; 32], leaves: &[u8], i: usize) -> LeafRights
-    requires { ⌜ (i * 18 + 18 ≤ length (now leaves)) × Tables q (now slots) (now attributes) ⌝ }
+// The rights of leaf `i`, where `base`, `slots` and `attributes` are the setup's tables: quick where no access is refused.
+fn pass_at(
+    q: Words,
+    base: &[u16; 16],
+    slots: &[u8; 16],
+    attributes: &[u8; 32],
+    leaves: &[u8],
+    i: usize,
+) -> LeafRights
+    requires { ⌜ (i * 18 + 18 ≤ length (now leaves)) × Tables q (now base) (now slots) (now attributes) ⌝ }
     ensures { λ r. ⌜ r ≡ passAt (setupFrom q) (now (leaves .entry)) i ⌝ }
 {
     let from = i * 18;
@@ -34,28 +42,29 @@ fn pass_at(q: Words, slots: &[u8; 16], attributes: &[u8; 32], leaves: &[u8], i: 
     let LeafRead::Read(l) = records::leaf::read_leaf(&leaves[from..to]) else {
         return LeafRights::Refused(13);
     };
-    let rights = quick_rights(q, slots, attributes, l);
+    let rights = quick_rights(q, base, slots, attributes, l);
     if rights < 64 {
         return LeafRights::Rights(rights);
     }
-    leaf_rights(q, l)
+    leaf_rights(q, base, l)
 }
 
 // Puts the rights of `n` leaves at the start of `buf`, up to the first leaf that is refused.
 fn fill(
     q: Words,
+    base: &[u16; 16],
     slots: &[u8; 16],
     attributes: &[u8; 32],
     leaves: &[u8],
     n: usize,
     buf: &mut [u8],
 ) -> Walked
-    requires { ⌜ (n * 18 ≤ length (now leaves)) × (n ≤ length (now buf)) × Tables q (now slots) (now attributes) ⌝ }
+    requires { ⌜ (n * 18 ≤ length (now leaves)) × (n ≤ length (now buf)) × Tables q (now base) (now slots) (now attributes) ⌝ }
     ensures { λ r. ⌜ walk (passAt (setupFrom q) (now (leaves .entry))) 0 n ≡ walkIn r n (now (buf .exit)) ⌝ }
 {
     let mut i: usize = 0;
     while i < n {
-        match pass_at(q, slots, attributes, leaves, i) {
+        match pass_at(q, base, slots, attributes, leaves, i) {
             LeafRights::Rights(b) => {
                 buf[i] = b;
             }
@@ -127,9 +136,10 @@ pub fn list_rights(setup: &[u8], leaves: &[u8], out: &mut [u8]) -> Listed
         };
     }
     let mut rights = [0u8; 2048];
+    let base = base_table(q.control, q.pir.privileged, q.pir.unprivileged);
     let slots = slot_table(q.control, q.por.privileged, q.por.unprivileged);
     let attributes = attribute_table(q.control, q.mair, q.mair2);
-    let walked = fill(q, &slots, &attributes, leaves, n, &mut rights);
+    let walked = fill(q, &base, &slots, &attributes, leaves, n, &mut rights);
     let Walked::All = walked else {
         return refused(walked);
     };

@@ -1,11 +1,10 @@
-// The base rights of all accesses of a leaf as one number, by Direct and by Indirect permissions: bits 0 to 5 by access number. Part of the
-// rights layer. No public function has a `requires`.
+// The tables and steps of Direct and Indirect permissions for all accesses of a leaf at once: rights are bits 0 to 5 of a number, by access
+// number. Part of the rights layer. No public function has a `requires`.
 ghost use mathlib.Core.Path.{_≡_};
-ghost use Rattle.descriptors.specs.Descriptor.{stage1Of, limitsOf};
-ghost use Rattle.records.specs.Setup.{controlOf};
-ghost use Rattle.permissions.specs.Direct.{directOf};
+ghost use Prim.Native.Nat.{_<_};
+ghost use Rattle.descriptors.specs.Bits.{bit};
 ghost use Rattle.permissions.specs.Indirect.{codeOf, indirectStep};
-ghost use Rattle.permissions.specs.Masks.{sixMask, baseMask, keep, twoLeft, oneLeft, removed, upperBits, pairMask};
+ghost use Rattle.permissions.specs.Masks.{baseMask, keep, levelPlace, levelPart, descriptorLeft, limitsLeft, removed, upperBits, pairMask};
 use indirect::code_bits;
 use permissions::Mask;
 
@@ -24,28 +23,48 @@ fn keep(removes: bool, m: u8) -> u8
     63
 }
 
-// What a descriptor and limits leave with two levels.
-fn two_left(unlimited: bool, d: u64, t: u8) -> u8
-    ensures { λ r. ⌜ r ≡ twoLeft unlimited d t ⌝ }
+// The entry of a table of sixteen that counts: with one level XN stands where PXN does with two.
+fn level_place(two: bool, k: usize) -> usize
+    ensures { λ r. ⌜ (r ≡ levelPlace two k) × (r < 16) ⌝ }
 {
-    let i = ((d >> 6) % 4 + (d >> 53) % 4 * 4) as usize;
-    let j = (t % 16) as usize;
-    DESCRIPTOR[i] & keep(!unlimited, LIMITS[j])
+    if two {
+        return k % 16;
+    }
+    (k >> 1) % 2 * 2 + (k >> 3) % 2 * 4
 }
 
-// The same with one level: XN and XNTable stand where PXN and PXNTable do with two.
-fn one_left(unlimited: bool, d: u64, t: u8) -> u8
-    ensures { λ r. ⌜ r ≡ oneLeft unlimited d t ⌝ }
+// With one level no unprivileged right is left.
+pub fn level_part(two: bool, m: u8) -> u8
+    ensures { λ r. ⌜ r ≡ levelPart two m ⌝ }
 {
-    let i = ((d >> 7) % 2 * 2 + (d >> 54) % 2 * 4) as usize;
-    let j = ((t >> 1) % 2 * 2 + (t >> 3) % 2 * 4) as usize;
-    (DESCRIPTOR[i] & keep(!unlimited, LIMITS[j])) % 8
+    if two {
+        return m;
+    }
+    m % 8
 }
 
-// Removals by unprivileged write, WXN and PAN.
-fn removed(wxn: bool, pan: bool, m: u8) -> u8
-    ensures { λ r. ⌜ r ≡ removed wxn pan m ⌝ }
+// What AP[1], AP[2], PXN and UXN leave, which are bits 0 to 3 of `k`.
+pub fn descriptor_left(two: bool, k: usize) -> u8
+    ensures { λ r. ⌜ r ≡ descriptorLeft two k ⌝ }
 {
+    let i = level_place(two, k);
+    level_part(two, DESCRIPTOR[i])
+}
+
+// What limits `k` leave.
+pub fn limits_left(two: bool, unlimited: bool, k: usize) -> u8
+    ensures { λ r. ⌜ r ≡ limitsLeft two unlimited k ⌝ }
+{
+    let i = level_place(two, k);
+    level_part(two, keep(!unlimited, LIMITS[i]))
+}
+
+// Removals by unprivileged write, WXN and PAN, where `w` is the control word.
+pub fn removed(w: u32, m: u8) -> u8
+    ensures { λ r. ⌜ r ≡ removed (bit w 6) (bit w 7) m ⌝ }
+{
+    let wxn = (w >> 6) % 2 == 1;
+    let pan = (w >> 7) % 2 == 1;
     let pw = (m >> 1) % 2 == 1;
     let ur = (m >> 3) % 2 == 1;
     let uw = (m >> 4) % 2 == 1;
@@ -53,19 +72,6 @@ fn removed(wxn: bool, pan: bool, m: u8) -> u8
         return m & keep(uw | wxn & pw, 59) & keep(wxn & uw, 31) & keep(pan & (ur | uw), 60);
     }
     m & keep(uw, 59) & 63
-}
-
-// The rights of descriptor `d` and limits `t` under Direct, where `w` is the control word.
-pub fn direct_mask(w: u32, d: u64, t: u8) -> u8
-    ensures { λ r. ⌜ r ≡ sixMask (directOf (controlOf w) (stage1Of d) (limitsOf t)) ⌝ }
-{
-    let unlimited = (w >> 8) % 2 == 1;
-    let wxn = (w >> 6) % 2 == 1;
-    let pan = (w >> 7) % 2 == 1;
-    if (w >> 0) % 2 == 1 {
-        return removed(wxn, pan, two_left(unlimited, d, t));
-    }
-    removed(wxn, pan, one_left(unlimited, d, t))
 }
 
 // The bits of the unprivileged code; with one level its rights are off and it is not refused.

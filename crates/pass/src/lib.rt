@@ -1,13 +1,11 @@
-// All rights of a leaf in one pass, as bits of a number. Part of the rights layer. No public function has a `requires`.
-//
-// Words of a setup and descriptors go in as they stand: a number in a register costs less than the fields of a record.
+// All rights of a leaf in one pass, as bits of a number: stage 2, and a level's overlay. Part of the rights layer. No public function has a
+// `requires`.
 ghost use mathlib.Core.Path.{_≡_};
 ghost use Prim.Native.Nat.{_<_};
 ghost use Rattle.descriptors.specs.Bits.{bit};
-ghost use Rattle.descriptors.specs.Descriptor.{stage1Of, stage2Of, limitsOf};
-ghost use Rattle.levels.specs.Masks.{setupWith, stage1Mask, stage2Mask, bitsIn, appliesIn, grants, stage2Left, slotLeft, maskWith};
-ghost use Rattle.levels.specs.Pass.{stage1Pass, stage2Pass};
-use descriptors::index::PIIndex;
+ghost use Rattle.descriptors.specs.Descriptor.{stage2Of};
+ghost use Rattle.levels.specs.Masks.{stage2Mask, bitsIn, appliesIn, grants, stage2Left, slotLeft, maskWith};
+ghost use Rattle.levels.specs.Pass.{stage2Pass};
 use permissions::Mask;
 use records::access::Level;
 
@@ -16,30 +14,6 @@ const STAGE2: [u8; 16] = [36, 45, 54, 63, 32, 41, 50, 59, 0, 9, 18, 27, 4, 13, 2
 
 // What slots 0 to 7 grant: their bits are R, X, W.
 const SLOTS: [u8; 8] = [0, 1, 4, 5, 2, 3, 6, 7];
-
-// Stage 1 up to the overlay: `w` is the control word, `p` and `u` are the PIRs, `d` is the descriptor and `t` the limits. Bits 6 and 7 of the
-// rights tell the levels where overlays apply.
-pub fn stage1_mask(w: u32, p: u64, u: u64, d: u64, t: u8) -> Mask
-    ensures { λ r. ⌜ r ≡ stage1Mask (stage1Pass (setupWith w p u) (stage1Of d) (limitsOf t)) ⌝ }
-{
-    if (w >> 1) % 2 == 1 {
-        if ((d >> 0) % 2 == 1) & ((d >> 10) % 2 == 1) {
-            if (w >> 3) % 2 == 1 {
-                if (d >> 7) % 2 == 1 {
-                    return Mask::Refused(7);
-                }
-                let i = PIIndex::of(d);
-                return masks::indirect_mask((w >> 0) % 2 == 1, i.code(p), i.code(u));
-            }
-            if (d >> 51) % 2 == 1 {
-                return Mask::Refused(7);
-            }
-            return Mask::Granted(masks::direct_mask(w, d, t) | 192);
-        }
-        return Mask::Granted(0);
-    }
-    Mask::Granted(63)
-}
 
 // Stage 2: `w` is the control word, `e` is the descriptor.
 pub fn stage2_mask(w: u32, e: u64) -> Mask

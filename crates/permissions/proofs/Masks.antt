@@ -6,7 +6,7 @@ use mathlib.Core.List.{List, [], _∷_}
 use Prim.Native.Nat.{ℕ, _+_, _*_, _/_, _%_, _^_}
 use native.Mathlib.Omega.{arith}
 use native.Mathlib.Nat.{mod-eq-of-lt}
-use lib.Bits.{bitAnd, and-mask, mask-lt}
+use lib.Bits.{bitAnd, and-mod, and-mask, mask-lt}
 use lib.Dec.{eqb, ltb}
 use lib.ListN.{length, getD}
 use Rattle.records.proofs.Cases.{upto, at, each, digits, each-digit}
@@ -15,7 +15,7 @@ use Rattle.descriptors.specs.Descriptor.{stage1Of, limitsOf}
 use Rattle.records.specs.Setup.{controlOf}
 use Rattle.permissions.specs.Direct as direct
 use Rattle.permissions.specs.Indirect.{meanings, fields, reserved, codeOf, indirectStep}
-use Rattle.permissions.specs.Masks.{sixMask, baseMask, keep, descriptorTable, limitsTable, twoLeft, oneLeft, removed, codes, upperBits, pairMask}
+use Rattle.permissions.specs.Masks.{sixMask, baseMask, keep, descriptorTable, limitsTable, levelPlace, descriptorLeft, limitsLeft, descriptorPlace, removed, codes, upperBits, pairMask}
 use Rattle.permissions.specs.declared.Mask.{Mask}
 use Rattle.permissions.specs.declared.Rights.{Rights}
 
@@ -71,8 +71,12 @@ limits-index t =
     halves t ∙ ap₂ (λ (x y : ℕ). x + y * 4) (two-digits (t / 2 ^ 0) (t / 2 ^ 1) (omega arith)) (two-digits (t / 2 ^ 2) (t / 2 ^ 3) (omega arith))
     ∙ four (t / 2 ^ 0 % 2) (t / 2 ^ 1 % 2) (t / 2 ^ 2 % 2) (t / 2 ^ 3 % 2)
 
+-- what descriptor d and limits t leave with two levels
+abbrev twoLeft : Bool → ℕ → ℕ → ℕ
+twoLeft unlimited d t = bitAnd (getD descriptorTable (descriptorPlace d) 0) (keep (not unlimited) (getD limitsTable (t % 16) 0))
+
 -- Direct with two levels
-pub direct-two : (w d t : ℕ) → bit w 0 ≡ true
+direct-two : (w d t : ℕ) → bit w 0 ≡ true
     → removed (bit w 6) (bit w 7) (twoLeft (bit w 8) d t) ≡ sixMask (direct.directOf (controlOf w) (stage1Of d) (limitsOf t))
 unfolding controlOf stage1Of limitsOf direct.directOf direct.directTwo
 direct-two w d t h =
@@ -95,12 +99,49 @@ leftOne m =
     (direct.executeNever (on m 3 && not (on m 4)) false
     (direct.executeNever (on m 1) false (direct.apTable (on m 2 && not (on m 4)) false (direct.apOne (on m 0)))))
 
-pub direct-one : (w d t : ℕ) → bit w 0 ≡ false
+-- what descriptor d and limits t leave with one level
+abbrev oneLeft : Bool → ℕ → ℕ → ℕ
+oneLeft unlimited d t =
+    bitAnd (getD descriptorTable (d / 2 ^ 7 % 2 * 2 + d / 2 ^ 54 % 2 * 4) 0)
+    (keep (not unlimited) (getD limitsTable (t / 2 ^ 1 % 2 * 2 + t / 2 ^ 3 % 2 * 4) 0)) % 8
+
+direct-one : (w d t : ℕ) → bit w 0 ≡ false
     → removed (bit w 6) (bit w 7) (oneLeft (bit w 8) d t) ≡ sixMask (direct.directOf (controlOf w) (stage1Of d) (limitsOf t))
 unfolding controlOf stage1Of limitsOf direct.directOf direct.directOne
 direct-one w d t h =
     rw h
     (each-digit (d / 2 ^ 7 ∷ d / 2 ^ 54 ∷ t / 2 ^ 1 ∷ t / 2 ^ 3 ∷ w / 2 ^ 8 ∷ w / 2 ^ 6 ∷ w / 2 ^ 7 ∷ []) tabledOne (λ (m : List ℕ). sixMask (leftOne m)) refl)
+
+-- the entries that count
+low-place : (k : ℕ) → k % 16 % 16 ≡ k % 16
+low-place k = omega arith
+
+descriptor-low : (d : ℕ) → descriptorPlace d % 16 ≡ descriptorPlace d
+descriptor-low d = omega arith
+
+second-and-fourth : (a b c e : ℕ) → levelPlace false (a % 2 + b % 2 * 2 + c % 2 * 4 + e % 2 * 8) ≡ b % 2 * 2 + e % 2 * 4
+second-and-fourth a b c e =
+    each-digit (a ∷ b ∷ c ∷ e ∷ []) (λ (m : List ℕ). levelPlace false (pick m 0 + pick m 1 * 2 + pick m 2 * 4 + pick m 3 * 8))
+    (λ (m : List ℕ). pick m 1 * 2 + pick m 3 * 4) refl
+
+-- Direct by what the descriptor leaves and what the limits leave
+pub direct-left : (w d t : ℕ)
+    → removed (bit w 6) (bit w 7) (bitAnd (descriptorLeft (bit w 0) (descriptorPlace d)) (limitsLeft (bit w 0) (bit w 8) (t % 16)))
+    ≡ sixMask (direct.directOf (controlOf w) (stage1Of d) (limitsOf t))
+direct-left w d t = go (bit w 0) refl
+  where
+    go : (two : Bool) → bit w 0 ≡ two
+        → removed (bit w 6) (bit w 7) (bitAnd (descriptorLeft two (descriptorPlace d)) (limitsLeft two (bit w 8) (t % 16)))
+        ≡ sixMask (direct.directOf (controlOf w) (stage1Of d) (limitsOf t))
+    go true e =
+        ap₂ (λ (i j : ℕ). removed (bit w 6) (bit w 7) (bitAnd (getD descriptorTable i 0) (keep (not (bit w 8)) (getD limitsTable j 0)))) (descriptor-low d) (low-place t)
+        ∙ direct-two w d t e
+    go false e =
+        ap₂ (λ (i j : ℕ). removed (bit w 6) (bit w 7) (bitAnd (getD descriptorTable i 0 % 8) (keep (not (bit w 8)) (getD limitsTable j 0) % 8)))
+        (ap (levelPlace false) (descriptor-index d) ∙ second-and-fourth (d / 2 ^ 6) (d / 2 ^ 7) (d / 2 ^ 53) (d / 2 ^ 54))
+        (ap (levelPlace false) (limits-index t) ∙ second-and-fourth (t / 2 ^ 0) (t / 2 ^ 1) (t / 2 ^ 2) (t / 2 ^ 3))
+        ∙ ap (removed (bit w 6) (bit w 7)) (sym (and-mod (getD descriptorTable (d / 2 ^ 7 % 2 * 2 + d / 2 ^ 54 % 2 * 4) 0) (keep (not (bit w 8)) (getD limitsTable (t / 2 ^ 1 % 2 * 2 + t / 2 ^ 3 % 2 * 4) 0)) 3))
+        ∙ direct-one w d t e
 
 -- Indirect, at all pairs of codes
 abbrev pairTable : Bool → ℕ → ℕ → Mask

@@ -42,16 +42,25 @@ descriptorTable = 39 ∷ 63 ∷ 37 ∷ 45 ∷ 35 ∷ 59 ∷ 33 ∷ 41 ∷ 7 ∷ 
 abbrev pub limitsTable : List ℕ
 limitsTable = 63 ∷ 39 ∷ 45 ∷ 37 ∷ 59 ∷ 35 ∷ 41 ∷ 33 ∷ 31 ∷ 7 ∷ 13 ∷ 5 ∷ 27 ∷ 3 ∷ 9 ∷ 1 ∷ []
 
--- what descriptor d and limits t leave with two levels
-abbrev pub twoLeft : Bool → ℕ → ℕ → ℕ
-twoLeft unlimited d t =
-    bitAnd (getD descriptorTable (d / 2 ^ 6 % 4 + d / 2 ^ 53 % 4 * 4) 0) (keep (not unlimited) (getD limitsTable (t % 16) 0))
+-- the entry of a table of sixteen that counts: with one level AP[1], PXN and their limits are ignored, and XN stands where PXN does with two
+abbrev pub levelPlace : Bool → ℕ → ℕ
+levelPlace two k = cond two (k % 16) (k / 2 ^ 1 % 2 * 2 + k / 2 ^ 3 % 2 * 4)
 
--- the same with one level: AP[1], APTable[0], PXN and PXNTable are ignored, and XN and XNTable take px away
-abbrev pub oneLeft : Bool → ℕ → ℕ → ℕ
-oneLeft unlimited d t =
-    bitAnd (getD descriptorTable (d / 2 ^ 7 % 2 * 2 + d / 2 ^ 54 % 2 * 4) 0)
-    (keep (not unlimited) (getD limitsTable (t / 2 ^ 1 % 2 * 2 + t / 2 ^ 3 % 2 * 4) 0)) % 8
+-- with one level no unprivileged right is left
+abbrev pub levelPart : Bool → ℕ → ℕ
+levelPart two m = cond two m (m % 8)
+
+-- what AP[1], AP[2], PXN and UXN leave, which are bits 0 to 3 of k
+abbrev pub descriptorLeft : Bool → ℕ → ℕ
+descriptorLeft two k = levelPart two (getD descriptorTable (levelPlace two k) 0)
+
+-- what limits k leave
+abbrev pub limitsLeft : Bool → Bool → ℕ → ℕ
+limitsLeft two unlimited k = levelPart two (keep (not unlimited) (getD limitsTable (levelPlace two k) 0))
+
+-- AP[1], AP[2], PXN and UXN of descriptor d as bits 0 to 3
+abbrev pub descriptorPlace : ℕ → ℕ
+descriptorPlace d = d / 2 ^ 6 % 4 + d / 2 ^ 53 % 4 * 4
 
 -- unprivileged write takes px away; WXN takes px where pw holds and ux where uw holds; PAN takes pr and pw where ur or uw holds
 abbrev pub removed : Bool → Bool → ℕ → ℕ

@@ -6,19 +6,29 @@ use Prim.Native.Nat.{ℕ, _+_, _*_, _/_, _%_, _^_}
 use lib.Bits.{bitAnd}
 use lib.Dec.{eqb}
 use lib.ListN.{getD}
+use Rattle.descriptors.specs.Descriptor.{stage1Of, stage2Of, limitsOf}
 use Rattle.records.proofs.Cases.{each, each-digit}
+use Rattle.records.specs.Leaf.{readLeaf}
+use Rattle.records.specs.Setup.{setupFrom}
 use Rattle.records.specs.declared.access.Level.{Level}
 use Rattle.records.specs.declared.access.Level.the-variants.{Privileged, Unprivileged}
+use Rattle.records.specs.declared.leaf.LeafRead.{LeafRead}
+use Rattle.records.specs.declared.leaf.LeafRead.the-variants as leaf
+use Rattle.records.specs.declared.setup.Words.{Words}
+use Rattle.checks.specs.Checks.{leafCheck}
 use Rattle.stages.specs.Overlay.{three}
 use Rattle.stages.specs.declared.level.LevelRights.{LevelRights}
 use Rattle.levels.proofs.Masks.{and-bits, any-bits}
+use Rattle.levels.proofs.Table.{range-by}
+use Rattle.levels.specs.Level.{rangeOf}
 use Rattle.levels.specs.Masks.{levelBits, rangeMask}
+use Rattle.levels.specs.Table.{BaseTable}
 use Rattle.levels.specs.declared.LevelRange.{LevelRange}
 use Rattle.levels.specs.declared.LevelRange.the-variants as range
-use Rattle.plan.specs.Masks.{forbiddenBits, slotOrder, maskPlan}
-use Rattle.plan.specs.Plan.{forbiddenRights, common, rangePlan}
+use Rattle.plan.specs.Masks.{forbiddenBits, slotOrder, maskPlan, readPlan, planBy}
+use Rattle.plan.specs.Plan.{after, forbiddenRights, common, rangePlan, leafPlan, leafPlanOf}
 use Rattle.plan.specs.Register.{slotNumber}
-use Rattle.plan.specs.declared.LeafPlan.the-variants.{Cut}
+use Rattle.plan.specs.declared.LeafPlan.the-variants.{Cut, Refused}
 
 -- the forbidden bits of a level: digits 0 to 2
 abbrev number : List ℕ → ℕ
@@ -40,8 +50,21 @@ slot-order a =
 in-common : (f : ℕ) (l : Level) (a : LevelRights) → bitAnd (forbiddenBits f l) (levelBits a) ≡ levelBits (common (forbiddenRights f l) a)
 in-common f l a = ap (λ (n : ℕ). bitAnd n (levelBits a)) (forbidden-bits f l) ∙ and-bits (forbiddenRights f l) a
 
-pub mask-plan : (f : ℕ) (l : Level) (x : LevelRange) → maskPlan f l (rangeMask x) ≡ rangePlan f l x
+mask-plan : (f : ℕ) (l : Level) (x : LevelRange) → maskPlan f l (rangeMask x) ≡ rangePlan f l x
 mask-plan f l (range.Range k full bare) =
     ap₂ (Cut k) (ap (λ (n : ℕ). getD slotOrder (n % 8) 0) (in-common f l full) ∙ slot-order (common (forbiddenRights f l) full))
     (ap (λ (n : ℕ). not (eqb n 0)) (in-common f l bare) ∙ any-bits (common (forbiddenRights f l) bare))
 mask-plan f l (range.Refused n) = refl
+
+module _ (q : Words) (b : List ℕ) (l : Level) (h : BaseTable (q .control) (q .pir .privileged) (q .pir .unprivileged) b) where
+  read-plan : (x : LeafRead) → readPlan q b l x ≡ leafPlan (setupFrom q) l x
+  read-plan (leaf.Refused n) = refl
+  read-plan (leaf.Read f) =
+      ap (after (leafCheck f) Refused)
+      (ap (maskPlan (f .forbidden) l) (range-by q b (f .stage1) (f .stage2) (f .limits) l h)
+      ∙ mask-plan (f .forbidden) l (rangeOf (setupFrom q) (stage1Of (f .stage1)) (stage2Of (f .stage2)) (limitsOf (f .limits)) l))
+
+  -- by a setup's table a leaf's plan is its plan
+  pub plan-by : (bytes : List ℕ) → planBy q b l bytes ≡ leafPlanOf (setupFrom q) l bytes
+  unfolding planBy leafPlanOf
+  plan-by bytes = read-plan (readLeaf bytes)

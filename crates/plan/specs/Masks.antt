@@ -1,5 +1,5 @@
--- A leaf's plan from rights as bits of a number, as the code makes it: private to the layer. The law `mask-plan` of proofs/Masks says that it
--- is `rangePlan`. Assumes nothing.
+-- A leaf's plan from rights as bits of a number, as the code makes it: private to the layer. The law `plan-by` of proofs/Masks says that it
+-- is `leafPlanOf`. Assumes nothing.
 use Prim.Native.Nat.{ℕ, _+_, _*_, _/_, _%_, _^_}
 use mathlib.Core.List.{List, [], _∷_}
 use mathlib.Core.Bool.{not}
@@ -8,8 +8,15 @@ use lib.Dec.{eqb}
 use lib.ListN.{getD}
 use Rattle.records.specs.declared.access.Level.{Level}
 use Rattle.records.specs.declared.access.Level.the-variants.{Privileged, Unprivileged}
+use Rattle.records.specs.Leaf.{readLeaf}
+use Rattle.records.specs.declared.leaf.LeafRead.{LeafRead}
+use Rattle.records.specs.declared.leaf.LeafRead.the-variants as leaf
+use Rattle.records.specs.declared.setup.Words.{Words}
+use Rattle.checks.specs.Checks.{leafCheck}
+use Rattle.levels.specs.Table.{rangeBy}
 use Rattle.levels.specs.declared.RangeMask.{RangeMask}
 use Rattle.levels.specs.declared.RangeMask.the-variants as mask
+use Rattle.plan.specs.Plan.{after}
 use Rattle.plan.specs.declared.LeafPlan.{LeafPlan}
 use Rattle.plan.specs.declared.LeafPlan.the-variants as plan
 
@@ -27,3 +34,12 @@ abbrev pub maskPlan : ℕ → Level → RangeMask → LeafPlan
 maskPlan f l (mask.Refused n) = plan.Refused n
 maskPlan f l (mask.Range k full bare) =
     plan.Cut k (getD slotOrder (bitAnd (forbiddenBits f l) full % 8) 0) (not (eqb (bitAnd (forbiddenBits f l) bare) 0))
+
+-- a leaf's plan by the words of the setup, where b is its table of base rights
+abbrev pub readPlan : Words → List ℕ → Level → LeafRead → LeafPlan
+readPlan q b l (leaf.Refused n) = plan.Refused 13
+readPlan q b l (leaf.Read f) =
+    after (leafCheck f) plan.Refused (maskPlan (f .forbidden) l (rangeBy q b (f .stage1) (f .stage2) (f .limits) l))
+
+unfoldable pub planBy : Words → List ℕ → Level → List ℕ → LeafPlan
+planBy q b l bytes = readPlan q b l (readLeaf bytes)

@@ -1,17 +1,19 @@
 // The planner layer: the overlay register of a level that stops every forbidden access of that level on a list of leaves, with each
 // slot bit on that may be on (document 01, 'The planner'; refusals 1 to 7 and 10 to 13).
 //
-// `plan_level` is the one public function and has no `requires`. Of the rights layer the planner uses the contracts of `checks` and of
-// `range::level_range`, and the laws of `levels`: its proofs/Ranges and proofs/Levels.
+// `plan_level` is the one public function and has no `requires`. Of the rights layer the planner uses the contracts of `checks`, `base_table` and
+// `range::level_range`, and the laws of `levels`: its proofs/Ranges, proofs/Levels and proofs/Table.
 ghost use mathlib.Core.Path.{_≡_};
 ghost use Prim.Native.Nat.{_/_, _%_, _≤_};
 ghost use lib.ListN.{length};
 ghost use Rattle.records.specs.Setup.{setupFrom};
+ghost use Rattle.levels.specs.Table.{BaseTable};
 ghost use Rattle.plan.specs.Plan.{planLeaves, planOf, valuesOf};
 ghost use Rattle.plan.specs.Demand3.{Demanded};
 use crate::masks::cut_mask;
 use crate::masks::first_of;
 use crate::masks::pack;
+use base_table::base_table;
 use cuts::plan_leaf;
 use cuts::refusal;
 use plan::LeafPlan;
@@ -24,8 +26,9 @@ use starts::begin;
 
 mod masks;
 
-// One pass over the list: each leaf's 5, 6 or 7, then 10, then the register.
-fn plan_leaves(q: Words, l: Level, leaves: &[u8]) -> Plan
+// One pass over the list, where `base` is the setup's table for stage 1: each leaf's 5, 6 or 7, then 10, then the register.
+fn plan_leaves(q: Words, base: &[u16; 16], l: Level, leaves: &[u8]) -> Plan
+    requires { ⌜ BaseTable (q .control) (q .pir .privileged) (q .pir .unprivileged) (now base) ⌝ }
     requires { ⌜ (length (now leaves) % 18 ≡ 0) × (length (now leaves) / 18 ≤ 2048) ⌝ }
     ensures { λ r. ⌜ r ≡ planLeaves (setupFrom q) l (now (leaves .entry)) ⌝ }
 {
@@ -35,7 +38,7 @@ fn plan_leaves(q: Words, l: Level, leaves: &[u8]) -> Plan
     let mut i = 0;
     while i < n {
         let a = i * 18;
-        let plan = plan_leaf(q, l, &leaves[a..a + 18]);
+        let plan = plan_leaf(q, base, l, &leaves[a..a + 18]);
         let LeafPlan::Cut {
             place,
             taken,
@@ -75,6 +78,9 @@ pub fn plan_level(setup: &[u8], level: u64, leaves: &[u8]) -> Plan
     let start = begin(setup, level, leaves.len());
     match start {
         Start::Refused(number) => Plan::Refused { number, leaf: 0 },
-        Start::Leaves { setup: _, level: l } => plan_leaves(q, l, leaves),
+        Start::Leaves { setup: _, level: l } => {
+            let base = base_table(q.control, q.pir.privileged, q.pir.unprivileged);
+            plan_leaves(q, &base, l, leaves)
+        }
     }
 }

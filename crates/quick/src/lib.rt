@@ -1,10 +1,10 @@
 // The rights of a leaf, both levels at once; or a number from 64 on where an access may be refused, and `leaves` judges the leaf. Part of the
 // judge. No public function has a `requires`.
 ghost use mathlib.Core.Path.{_≡_};
-ghost use mathlib.Core.Bool.{cond};
-ghost use Prim.Native.Nat.{_%_, _<_};
+ghost use Prim.Native.Nat.{_<_};
 ghost use Rattle.judgement.specs.Quick.{reserves, grantsAt, reservesAt, overlaidBits, stage2Bits, checkedBits, bothBits, SlotTable, quickOf};
 use descriptors::index::POIndex;
+use masks::level_part;
 use pass::slot_bits;
 use permissions::Mask;
 use records::leaf::Leaf;
@@ -80,23 +80,13 @@ fn stage2_bits(o: u8, t: Mask) -> u8
     }
 }
 
-// With one level bits 3 to 5 are 0.
-fn shown_bits(two: bool, s: u8) -> u8
-    ensures { λ x. ⌜ x ≡ cond two s (s % 8) ⌝ }
-{
-    if two {
-        return s;
-    }
-    s % 8
-}
-
-// The attribute steps, which refuse nothing where `passes`: else bit 6 marks rights that reach them. There is no branch, since no processor
+// The attribute steps, which refuse nothing where `passes`: else bit 6 marks rights that reach them. With one level bits 3 to 5 are 0. There is no branch, since no processor
 // predicts which leaves have rights.
 fn checked_bits(two: bool, s: u8, passes: bool) -> u8
     ensures { λ x. ⌜ x ≡ checkedBits two s passes ⌝ }
 {
     let refused = (!passes & (s != 0)) as u8;
-    shown_bits(two, s) | refused * 64
+    level_part(two, s) | refused * 64
 }
 
 // The rights that both stages leave.
@@ -110,9 +100,15 @@ fn both_bits(m: u8, g: u8, r: u8, t: Mask) -> u8
     stage2_bits(o, t)
 }
 
-// The rights of a leaf by the words of the setup, the table of its slots and its table of attributes; or a number from 64 on.
-pub fn quick_rights(q: Words, slots: &[u8; 16], attributes: &[u8; 32], l: Leaf) -> u8
-    ensures { λ x. ⌜ x ≡ quickOf q (now (slots .entry)) (now (attributes .entry)) l ⌝ }
+// The rights of a leaf by the words of the setup and its tables for stage 1, slots and attributes; or a number from 64 on.
+pub fn quick_rights(
+    q: Words,
+    base: &[u16; 16],
+    slots: &[u8; 16],
+    attributes: &[u8; 32],
+    l: Leaf,
+) -> u8
+    ensures { λ x. ⌜ x ≡ quickOf q (now (base .entry)) (now (slots .entry)) (now (attributes .entry)) l ⌝ }
 {
     if (15 < l.limits) | (63 < l.forbidden) {
         return 64;
@@ -120,7 +116,7 @@ pub fn quick_rights(q: Words, slots: &[u8; 16], attributes: &[u8; 32], l: Leaf) 
     let w = q.control;
     let d = l.stage1;
     let e = l.stage2;
-    let first = pass::stage1_mask(w, q.pir.privileged, q.pir.unprivileged, d, l.limits);
+    let first = base_table::mask_of(base_table::stage1_word(base, w, d, l.limits));
     let Mask::Granted(m) = first else {
         return 64;
     };

@@ -1,10 +1,9 @@
 // What the planner asks of a leaf at a level. Part of the rights layer. No public function has a `requires`.
 ghost use mathlib.Core.Path.{_≡_};
-ghost use Rattle.descriptors.specs.Descriptor.{stage1Of, stage2Of, limitsOf};
-ghost use Rattle.records.specs.Setup.{controlOf, setupFrom};
+ghost use Rattle.records.specs.Setup.{controlOf};
 ghost use Rattle.stages.specs.Overlay.{bitOf};
-ghost use Rattle.levels.specs.Level.{rangeOf};
-ghost use Rattle.levels.specs.Masks.{rangeMask, rangeWith};
+ghost use Rattle.levels.specs.Masks.{rangeWith};
+ghost use Rattle.levels.specs.Table.{rangeBy};
 use descriptors::index::POIndex;
 use levels::RangeMask;
 use pass::level_mask;
@@ -38,14 +37,14 @@ fn overlay_on(w: u32, l: Level) -> bool
     }
 }
 
-// The refusal that an access of the level meets with 77777777 in place of that level's POR, or the range of its rights: `d` and `e` are the
-// descriptors, `t` is the limits.
-pub fn level_range(q: Words, d: u64, e: u64, t: u8, l: Level) -> RangeMask
-    ensures { λ x. ⌜ x ≡ rangeMask (rangeOf (setupFrom q) (stage1Of d) (stage2Of e) (limitsOf t) l) ⌝ }
+// The refusal that an access of the level meets with 77777777 in place of that level's POR, or the range of its rights: `base` is the setup's
+// table for stage 1, `d` and `e` are the descriptors, `t` is the limits.
+pub fn level_range(q: Words, base: &[u16; 16], d: u64, e: u64, t: u8, l: Level) -> RangeMask
+    ensures { λ x. ⌜ x ≡ rangeBy q (now (base .entry)) d e t l ⌝ }
 {
     let w = q.control;
     let on = overlay_on(w, l);
-    let first = pass::stage1_mask(w, q.pir.privileged, q.pir.unprivileged, d, t);
+    let first = base_table::mask_of(base_table::stage1_word(base, w, d, t));
     let second = pass::stage2_mask(w, e);
     let i = POIndex::of(d);
     range_with(

@@ -1,4 +1,4 @@
--- A table of two halves that a loop fills side by side. Assumes nothing.
+-- A table that a loop fills: entry by entry, or in two halves side by side. Assumes nothing.
 use mathlib.Core.Path.{_≡_, refl, _∙_}
 use mathlib.Core.Bool.{Bool, true, false}
 use mathlib.Core.List.{List}
@@ -8,6 +8,18 @@ use lib.Dec.{eqb}
 use lib.ListN.{length, getD, set, length-set}
 use lib.Seq.{getD-set-same, getD-set-other}
 use borrow.Author.Tests.{eqb-true, eqb-false}
+
+-- the entries before k are f's
+abbrev pub Entries : (ℕ → ℕ) → List ℕ → ℕ → Type 0
+Entries f t k = (j : ℕ) → j < k → getD t j 0 ≡ f j
+
+-- one entry more
+pub one-entry : (f : ℕ → ℕ) (t : List ℕ) (k : ℕ) → k < length t → Entries f t k → (a : ℕ) → a ≡ f k → Entries f (set t k a) (k + 1)
+one-entry f t k h E a p j i = go (eqb j k) refl
+  where
+    go : (x : Bool) → eqb j k ≡ x → getD (set t k a) j 0 ≡ f j
+    go true e = rw (eqb-true j k e) (getD-set-same t k a 0 h ∙ p)
+    go false e = let d = eqb-false j k e in getD-set-other t k j a 0 d ∙ E j (omega arith)
 
 -- the entries before k of both halves, n entries each: f's, and g's n further on
 abbrev pub Filled : ℕ → (ℕ → ℕ) → (ℕ → ℕ) → List ℕ → ℕ → Type 0

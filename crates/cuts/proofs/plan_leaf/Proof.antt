@@ -1,10 +1,6 @@
 -- `plan_leaf` meets its contract: the first refusal stands. Assumes nothing.
-use Rattle.descriptors.specs.Descriptor.{stage1Of, stage2Of, limitsOf}
-use Rattle.records.specs.Setup.{setupFrom}
-use Rattle.levels.specs.Level.{rangeOf}
-use Rattle.plan.specs.Plan.{leafPlanOf}
+use Rattle.plan.specs.Masks.{planBy}
 use Rattle.plan.specs.declared.LeafPlan.the-variants.{Refused}
-use Rattle.plan.proofs.Masks.{mask-plan}
 use Rattle.plan.proofs.Steps.{stands}
 use borrow.Author.Needs.{needs}
 use Rattle.cuts.proofs.plan_leaf.Statement.{statement}
@@ -20,7 +16,7 @@ enum-told : tie.Need-enum-told
 enum-told c = search needs
 
 returns : tie.Need-returns
-unfolding leafPlanOf
+unfolding planBy
 returns c = rw (← (c .before .before .read-leaf .ensures), c .enum-told .given .1)
 
 check-leaf-requires : tie.Need-check-leaf-requires
@@ -33,7 +29,7 @@ number-of-requires : tie.Need-number-of-requires
 number-of-requires c κs = search needs
 
 returns-2 : tie.Need-returns-2
-unfolding leafPlanOf
+unfolding planBy
 returns-2 c = rw (← (c .before .before .before .before .before .before .read-leaf .ensures), c .before .before .before .before .read .given .1, ← (c .before .before .check-leaf .ensures), c .number-of .ensures) (stands (c .before .before .check-leaf .result) Refused _ (c .before .match2 .keys2))
 
 level-range-requires : tie.Need-level-range-requires
@@ -43,8 +39,8 @@ range-plan-requires : tie.Need-range-plan-requires
 range-plan-requires c κs = search needs
 
 returns-3 : tie.Need-returns-3
-unfolding leafPlanOf
-returns-3 c = rw (← (c .before .before .before .before .before .before .before .before .read-leaf .ensures), c .before .before .before .before .before .before .read .given .1, ← (c .before .before .before .before .check-leaf .ensures), c .before .before .enum-told2 .given .1, c .range-plan .ensures, c .before .level-range .ensures) (let a = c .before .before .before .before .before .before .before .before .before .before .args in let f = c .before .before .before .before .before .before .read .given .0 .0 in mask-plan (f .forbidden) (a .l) (rangeOf (setupFrom (a .q)) (stage1Of (f .stage1)) (stage2Of (f .stage2)) (limitsOf (f .limits)) (a .l)))
+unfolding planBy
+returns-3 c = rw (← (c .before .before .before .before .before .before .before .before .read-leaf .ensures), c .before .before .before .before .before .before .read .given .1, ← (c .before .before .before .before .check-leaf .ensures), c .before .before .enum-told2 .given .1, c .range-plan .ensures, c .before .level-range .ensures)
 
 pub plan-leaf-spec : {M : Type 1} → statement M
 plan-leaf-spec =

@@ -1,12 +1,9 @@
 -- `leaf_rights` meets its contract: 5 refuses the leaf; else both levels. Assumes nothing.
-use mathlib.Core.Path.{sym, _∙_}
-use Rattle.descriptors.specs.Descriptor.{stage1Of, stage2Of, limitsOf}
-use Rattle.records.specs.Setup.{setupFrom, controlOf}
-use Rattle.memory.specs.Order.{checkOf}
-use Rattle.levels.specs.Level.{levelsOf}
-use Rattle.judgement.specs.Pass.{passLevels, leafPass}
+use denote.Ref.{now}
+use Rattle.records.specs.Setup.{controlOf}
+use Rattle.levels.specs.Table.{stage1With}
+use Rattle.judgement.specs.Pass.{passFrom, leafBy}
 use Rattle.judgement.proofs.Steps.{refuses}
-use Rattle.judgement.proofs.Masks.{masked}
 use borrow.Author.Needs.{needs}
 use Rattle.leaves.proofs.leaf_rights.Statement.{statement}
 use Rattle.leaves.proofs.leaf_rights.Tie as tie
@@ -21,11 +18,14 @@ check-refusal-requires : tie.Need-check-refusal-requires
 check-refusal-requires c κs = search needs
 
 returns : tie.Need-returns
-unfolding leafPass
-returns c = rw (c .check-refusal .ensures, ← (c .before .before .check-leaf .ensures)) (let a = c .before .before .before .args in refuses (c .before .before .check-leaf .result) (passLevels (setupFrom (a .q) .control .two) (levelsOf (setupFrom (a .q)) (stage1Of (a .l .stage1)) (stage2Of (a .l .stage2)) (limitsOf (a .l .limits))) (checkOf (setupFrom (a .q)) (stage1Of (a .l .stage1)) (stage2Of (a .l .stage2)))) (c .before .match .keys2))
+unfolding leafBy
+returns c = rw (c .check-refusal .ensures, ← (c .before .before .check-leaf .ensures)) (let a = c .before .before .before .args in refuses (c .before .before .check-leaf .result) (passFrom (a .q) (a .l) (stage1With (now (a .base)) (a .q .control) (a .l .stage1) (a .l .limits))) (c .before .match .keys2))
 
-stage1-mask-requires : tie.Need-stage1-mask-requires
-stage1-mask-requires c κs = search needs
+stage1-word-requires : tie.Need-stage1-word-requires
+stage1-word-requires c κs = tt
+
+mask-of-requires : tie.Need-mask-of-requires
+mask-of-requires c κs = tt
 
 stage2-mask-requires : tie.Need-stage2-mask-requires
 stage2-mask-requires c κs = search needs
@@ -52,8 +52,8 @@ join-levels-requires : tie.Need-join-levels-requires
 join-levels-requires c κs = search needs
 
 returns-2 : tie.Need-returns-2
-unfolding controlOf
-returns-2 c = let a = c .before .before .before .before .before .before .before .before .before .before .before .before .args in rw (c .join-levels .ensures, c .before .check-attributes .ensures, c .before .before .level-mask2 .ensures, c .before .before .before .level-mask .ensures, c .before .before .before .before .slot2 .ensures, c .before .before .before .before .before .slot .ensures, c .before .before .before .before .before .before .of .ensures, c .before .before .before .before .before .before .before .stage2-mask .ensures, c .before .before .before .before .before .before .before .before .stage1-mask .ensures) (masked (a .q) (a .l) (sym (c .before .before .before .before .before .before .before .before .before .before .before .check-leaf .ensures) ∙ c .before .before .before .before .before .before .before .before .before .enum-told .given .1))
+unfolding controlOf leafBy
+returns-2 c = rw (c .join-levels .ensures, c .before .check-attributes .ensures, c .before .before .level-mask2 .ensures, c .before .before .before .level-mask .ensures, c .before .before .before .before .slot2 .ensures, c .before .before .before .before .before .slot .ensures, c .before .before .before .before .before .before .of .ensures, c .before .before .before .before .before .before .before .stage2-mask .ensures, c .before .before .before .before .before .before .before .before .mask-of .ensures, c .before .before .before .before .before .before .before .before .before .stage1-word .ensures, ← (c .before .before .before .before .before .before .before .before .before .before .before .before .check-leaf .ensures), c .before .before .before .before .before .before .before .before .before .before .enum-told .given .1)
 
 pub leaf-rights-spec : {M : Type 1} → statement M
 leaf-rights-spec =
@@ -63,7 +63,8 @@ leaf-rights-spec =
     enum-told
     check-refusal-requires
     returns
-    stage1-mask-requires
+    stage1-word-requires
+    mask-of-requires
     stage2-mask-requires
     of-requires
     slot-requires

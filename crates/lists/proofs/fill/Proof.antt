@@ -16,13 +16,13 @@ use Rattle.lists.proofs.fill.Statement.{statement}
 use Rattle.lists.proofs.fill.Tie as tie
 
 abbrev Inv-loop : tie.InvT-loop
-Inv-loop q slots attributes leaves n buf₀ i₀ buf i =
+Inv-loop q base slots attributes leaves n buf₀ i₀ buf i =
     (i ≤ n)
     × (length buf ≡ length buf₀)
     × (walk (passAt (setupFrom q) leaves) 0 n ≡ ahead (take i buf) (walk (passAt (setupFrom q) leaves) i (n - i)))
 
 abbrev μ-loop : tie.MeasureT-loop
-μ-loop q slots attributes leaves n buf₀ i₀ buf i = n - i
+μ-loop q base slots attributes leaves n buf₀ i₀ buf i = n - i
 
 loop-holds : tie.Need-loop-holds Inv-loop μ-loop
 loop-holds c = (omega arith, refl, rw sub-zero (sym (ahead-none _)))

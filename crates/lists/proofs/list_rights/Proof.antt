@@ -47,15 +47,23 @@ ok c = checked (c .before .before) ∙ c .enum-told2 .given .1
 accepted : (c : tie.After-enum-told2) → listOf (now (start (c .before .before .before .before .before) .args .setup)) (leaves (c .before .before .before .before .before)) (out (c .before .before .before .before .before)) ≡ leavesOf (given (c .before .before .before .before .before)) (leaves (c .before .before .before .before .before)) (out (c .before .before .before .before .before))
 accepted c = reads (c .before .before .before .before .before) ∙ ap (λ x. afterCheck x (leavesOf (given (c .before .before .before .before .before)) (leaves (c .before .before .before .before .before)) (out (c .before .before .before .before .before))) (out (c .before .before .before .before .before))) (ok c)
 
+-- that state where the leaves are judged
+abbrev read-in : tie.After-fill → tie.After-q
+read-in c = c .before .before .before .before .before .before .before .before .before .before .before .before .before .before .before .before
+
+-- the contents of the local buffer then
+abbrev filled : tie.After-fill → List ℕ
+filled c = c .fill .last .1 .1 .1 .1 .1 .1 .0
+
 -- the walk that the code made is the list's
-walked : (c : tie.After-fill) (w : Walk) → walkIn (c .fill .result) (length (leaves (c .before .before .before .before .before .before .before .before .before .before .before .before .before .before)) / 18) (c .fill .last .1 .1 .1 .1 .1 .0) ≡ w
-    → listOf (now (start (c .before .before .before .before .before .before .before .before .before .before .before .before .before .before) .args .setup)) (leaves (c .before .before .before .before .before .before .before .before .before .before .before .before .before .before)) (out (c .before .before .before .before .before .before .before .before .before .before .before .before .before .before)) ≡ finish w (length (leaves (c .before .before .before .before .before .before .before .before .before .before .before .before .before .before)) / 18) (out (c .before .before .before .before .before .before .before .before .before .before .before .before .before .before))
+walked : (c : tie.After-fill) (w : Walk) → walkIn (c .fill .result) (length (leaves (read-in c)) / 18) (filled c) ≡ w
+    → listOf (now (start (read-in c) .args .setup)) (leaves (read-in c)) (out (read-in c)) ≡ finish w (length (leaves (read-in c)) / 18) (out (read-in c))
 walked c w e =
-    accepted (c .before .before .before .before .before .before .before .before .before) ∙ goes _ _ _ (c .before .before .before .before .before .before .before .before .if1 .left) (ok (c .before .before .before .before .before .before .before .before .before)) (c .before .before .before .before .before .before .before .if2 .left) (c .before .before .before .before .before .before .if3 .left) w (c .fill .ensures ∙ e)
+    accepted (c .before .before .before .before .before .before .before .before .before .before .before) ∙ goes _ _ _ (c .before .before .before .before .before .before .before .before .before .before .if1 .left) (ok (c .before .before .before .before .before .before .before .before .before .before .before)) (c .before .before .before .before .before .before .before .before .before .if2 .left) (c .before .before .before .before .before .before .before .before .if3 .left) w (c .fill .ensures ∙ e)
 
 -- the rights of all leaves fit into the local buffer
-room : (c : tie.After-fill) → length (leaves (c .before .before .before .before .before .before .before .before .before .before .before .before .before .before)) / 18 ≤ length (c .fill .last .1 .1 .1 .1 .1 .0)
-room c = let h = c .before .before .before .before .before .before .before .if2 .left in omega (arith, c .fill .kept .1 .1 .1 .1 .1 .0, length-replicate {A = ℕ} 2048 0)
+room : (c : tie.After-fill) → length (leaves (read-in c)) / 18 ≤ length (filled c)
+room c = let h = c .before .before .before .before .before .before .before .before .before .if2 .left in omega (arith, c .fill .kept .1 .1 .1 .1 .1 .1 .0, length-replicate {A = ℕ} 2048 0)
 
 read-words-requires : tie.Need-read-words-requires
 read-words-requires c κs = search needs
@@ -98,6 +106,9 @@ returns-4 c = result _ _ _ _ (accepted (c .before .before) ∙ long _ _ _ (c .be
 returns-5 : tie.Need-returns-5
 returns-5 c = result _ _ _ _ (accepted (c .before .before .before) ∙ short _ _ _ (c .before .before .if1 .left) (c .before .if2 .left) (c .if3 .taken))
 
+base-table-requires : tie.Need-base-table-requires
+base-table-requires c κs = search needs
+
 slot-table-requires : tie.Need-slot-table-requires
 slot-table-requires c κs = search needs
 
@@ -121,8 +132,8 @@ refused-requires c κs = search needs
 
 returns-6 : tie.Need-returns-6
 returns-6 c = let f = c .before .before .before .before in
-    let e = walked f _ (ap (λ w. walkIn w (length (leaves (f .before .before .before .before .before .before .before .before .before .before .before .before .before .before)) / 18) (f .fill .last .1 .1 .1 .1 .1 .0)) (c .before .enum-told4 .given .1)) in
-    met _ _ _ (c .refused .result) (out (f .before .before .before .before .before .before .before .before .before .before .before .before .before .before)) (c .refused .ensures ∙ ap refusedOf (c .before .enum-told4 .given .1) ∙ ap (λ (y : Result). y .answer) (sym e)) (ap (λ (y : Result). y .out) (sym e))
+    let e = walked f _ (ap (λ w. walkIn w (length (leaves (read-in f)) / 18) (filled f)) (c .before .enum-told4 .given .1)) in
+    met _ _ _ (c .refused .result) (out (read-in f)) (c .refused .ensures ∙ ap refusedOf (c .before .enum-told4 .given .1) ∙ ap (λ (y : Result). y .answer) (sym e)) (ap (λ (y : Result). y .out) (sym e))
 
 array-share-prefix-rights : tie.Need-array-share-prefix-rights
 array-share-prefix-rights c = search needs
@@ -131,17 +142,17 @@ slice-aggregate-copy : tie.Need-slice-aggregate-copy
 slice-aggregate-copy c = sym (length-take-le _ _ (room (c .before .before .before .before)))
 
 copy-requires : tie.Need-copy-requires
-copy-requires c κs = rw (length-take-le _ _ (room (c .before .before .before .before .before))) (c .before .before .before .before .before .before .before .before .before .before .before .if3 .left)
+copy-requires c κs = rw (length-take-le _ _ (room (c .before .before .before .before .before))) (c .before .before .before .before .before .before .before .before .before .before .before .before .before .if3 .left)
 
 same-length : tie.Need-same-length
 same-length c = search needs
 
 returns-7 : tie.Need-returns-7
 returns-7 c = let f = c .before .before .before .before .before .before .before .before in
-    let v = f .fill .last .1 .1 .1 .1 .1 .0 in
-    let e = walked f _ (ap (λ w. walkIn w (length (leaves (f .before .before .before .before .before .before .before .before .before .before .before .before .before .before)) / 18) v) (c .before .before .before .before .before .enum-told3 .given .1)) in
+    let v = filled f in
+    let e = walked f _ (ap (λ w. walkIn w (length (leaves (read-in f)) / 18) v) (c .before .before .before .before .before .enum-told3 .given .1)) in
     met _ _ _ _ (c .before .before .copy .last .1 .0) (ap (λ (y : Result). y .answer) (sym e))
-    (c .before .before .copy .ensures .1 ∙ copied (take (length (leaves (f .before .before .before .before .before .before .before .before .before .before .before .before .before .before)) / 18) v) (out (f .before .before .before .before .before .before .before .before .before .before .before .before .before .before)) ∙ ap (λ (y : Result). y .out) (sym e))
+    (c .before .before .copy .ensures .1 ∙ copied (take (length (leaves (read-in f)) / 18) v) (out (read-in f)) ∙ ap (λ (y : Result). y .out) (sym e))
 
 pub list-rights-spec : {M : Type 1} → statement M
 list-rights-spec =
@@ -159,6 +170,7 @@ list-rights-spec =
     returns-3
     returns-4
     returns-5
+    base-table-requires
     slot-table-requires
     attribute-table-requires
     slice-aggregate-fill

@@ -9,7 +9,10 @@ use denote.Ref.{now}
 use Rattle.records.proofs.Lengths.{leaf-read}
 use Rattle.records.specs.Leaf.{readLeaf}
 use Rattle.records.specs.declared.leaf.LeafRead.the-variants.{Read}
+use Rattle.records.specs.Setup.{setupFrom}
+use Rattle.judgement.proofs.Masks.{leaf-by}
 use Rattle.judgement.proofs.Quick.{sound}
+use Rattle.judgement.specs.Pass.{leafPass, leafBy}
 use Rattle.judgement.specs.List.{leafAt}
 use Rattle.judgement.specs.declared.LeafRights.the-variants.{Rights}
 use Rattle.lists.specs.Walked.{passAt}
@@ -28,6 +31,13 @@ read c = c .read-leaf .ensures ∙ part _ _ (c .before .before .before .pre .0)
 -- the leaf that was read is leaf i
 leaf-is : (c : tie.After-l) → c .l .given .0 .0 ≡ leafAt (now (c .before .before .before .before .before .args .leaves)) (c .before .before .before .before .before .args .i)
 leaf-is c = let q = sym (c .l .given .1) ∙ read (c .before .before) in cc
+
+-- by the setup's tables it gets what the pass gives
+passes : (c : tie.After-l) → let a = c .before .before .before .before .before in
+    leafBy (a .args .q) (now (a .args .base)) (c .l .given .0 .0) ≡ passAt (setupFrom (a .args .q)) (now (a .args .leaves)) (a .args .i)
+unfolding passAt
+passes c = let a = c .before .before .before .before .before in
+    leaf-by (a .args .q) (c .l .given .0 .0) (now (a .args .base)) (a .pre .1 .0) ∙ ap (leafPass (setupFrom (a .args .q))) (leaf-is c)
 
 mul-from : tie.Need-mul-from
 mul-from c = search needs
@@ -60,18 +70,17 @@ quick-rights-requires : tie.Need-quick-rights-requires
 quick-rights-requires c κs = search needs
 
 returns-2 : tie.Need-returns-2
-unfolding passAt
 returns-2 c = let a = c .before .before .before .before .before .before .before .before in
-    let k = leaf-is (c .before .before .before) in
-    sym (rw (sym k) (sound (a .args .q) (c .before .before .before .l .given .0 .0) (now (a .args .slots)) (now (a .args .attributes)) (a .pre .1 .0) (a .pre .1 .1) (subst (λ (n : ℕ). n < 64) (c .before .quick-rights .ensures) (c .if1 .taken)))
-    ∙ ap Rights (sym (c .before .quick-rights .ensures)))
+    let q = c .before .quick-rights .ensures in
+    ap Rights q
+    ∙ sym (sound (a .args .q) (c .before .before .before .l .given .0 .0) (now (a .args .base)) (now (a .args .slots)) (now (a .args .attributes)) (a .pre .1 .1) (a .pre .1 .2) (subst (λ (n : ℕ). n < 64) q (c .if1 .taken)))
+    ∙ passes (c .before .before .before)
 
 leaf-rights-requires : tie.Need-leaf-rights-requires
 leaf-rights-requires c κs = search needs
 
 returns-3 : tie.Need-returns-3
-unfolding passAt
-returns-3 c = rw (c .leaf-rights .ensures, leaf-is (c .before .before .before .before))
+returns-3 c = c .leaf-rights .ensures ∙ passes (c .before .before .before .before)
 
 pub pass-at-spec : {M : Type 1} → statement M
 pass-at-spec =

@@ -1,4 +1,5 @@
 -- `removed` meets its contract: each step is the definition's. Assumes nothing.
+use Rattle.descriptors.specs.Bits.{bit}
 use Rattle.permissions.proofs.Masks.{write-removal}
 use borrow.Author.Needs.{needs}
 use Rattle.masks.proofs.removed.Statement.{statement}
@@ -20,7 +21,7 @@ keep-requires-4 : tie.Need-keep-requires-4
 keep-requires-4 c κs = search needs
 
 returns-2 : tie.Need-returns-2
-returns-2 c = let a = c .before .before .args in rw (c .keep4 .ensures) (write-removal (a .wxn) (a .pan) (a .m) (c .before .if1 .left))
+returns-2 c = let a = c .before .before .args in rw (c .keep4 .ensures) (write-removal (bit (a .w) 6) (bit (a .w) 7) (a .m) (c .before .if1 .left))
 
 pub removed-spec : {M : Type 1} → statement M
 removed-spec =

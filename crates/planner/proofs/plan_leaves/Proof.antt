@@ -17,19 +17,20 @@ use Rattle.plan.specs.declared.LeafPlan.{LeafPlan}
 use Rattle.plan.specs.declared.LeafPlan.the-variants.{Cut}
 use Rattle.plan.proofs.Cuts.{Low, cuts-masks, sevens}
 use Rattle.plan.proofs.Leaves.{leaf-low}
+use Rattle.plan.proofs.Masks.{plan-by}
 use Rattle.plan.proofs.Turns.{refused-go, cuts-go, first-go, refused-done, cuts-done, first-done, first-starts, uncured-settles, cured-settles}
 use Rattle.planner.proofs.plan_leaves.Statement.{statement}
 use Rattle.planner.proofs.plan_leaves.Tie as tie
 
 abbrev Inv-loop : tie.InvT-loop
-Inv-loop q l leaves n masks₀ first₀ i₀ masks first i =
+Inv-loop q base l leaves n masks₀ first₀ i₀ masks first i =
     (i ≤ n)
     × (planLeaves (setupFrom q) l leaves ≡ refusedFrom (plansOf (setupFrom q) l leaves) (settled (plansOf (setupFrom q) l leaves) n) (n - i) i)
     × (cuts (plansOf (setupFrom q) l leaves) n 0 (replicate 8 7) ≡ cuts (plansOf (setupFrom q) l leaves) (n - i) i masks)
     × (firstUncured (plansOf (setupFrom q) l leaves) n 0 ≡ cond (eqb first n) (firstUncured (plansOf (setupFrom q) l leaves) (n - i) i) first)
 
 abbrev μ-loop : tie.MeasureT-loop
-μ-loop q l leaves n masks₀ first₀ i₀ masks first i = n - i
+μ-loop q base l leaves n masks₀ first₀ i₀ masks first i = n - i
 
 -- the list, its leaves' plans and their number, at the loop
 abbrev ls : tie.At-loop Inv-loop μ-loop → List ℕ
@@ -46,7 +47,7 @@ planned : (c : tie.After-plan-leaf Inv-loop μ-loop) → c .plan-leaf .result �
 planned c =
     let a = c .before .before .before .before .before .args in
     let i = c .before .before .before .loop .i in
-    c .plan-leaf .ensures ∙ ap (λ (k : ℕ). leafPlanOf (setupFrom (a .q)) (a .l) (take k (drop (i * 18) (now (a .leaves))))) (add-sub-cancel-left (i * 18) 18)
+    c .plan-leaf .ensures ∙ plan-by (a .q) _ (a .l) (c .before .before .before .before .before .pre .0) _ ∙ ap (λ (k : ℕ). leafPlanOf (setupFrom (a .q)) (a .l) (take k (drop (i * 18) (now (a .leaves))))) (add-sub-cancel-left (i * 18) 18)
 
 -- leaf i's plan where it is a cut
 cut : (c : tie.After-plan Inv-loop μ-loop) → P (c .before .before .before .before .before) (c .before .before .before .before .before .loop .i) ≡ Cut (c .plan .given .0 .0) (c .plan .given .0 .1 .0) (c .plan .given .0 .1 .1 .0)

@@ -45,17 +45,21 @@ enum-known-start c = search needs
 enum-known-start-2 : tie.Need-enum-known-start-2
 enum-known-start-2 c = search needs
 
+base-table-requires : tie.Need-base-table-requires
+base-table-requires c κs = search needs
+
 plan-leaves-requires : tie.Need-plan-leaves-requires
-plan-leaves-requires c κs = fits _ (now (c .before .before .before .before .before .before .before .before .before .before .args .setup)) _ _ _ (sym (c .before .before .before .begin .ensures) ∙ c .before .start2 .given .1)
+plan-leaves-requires c κs = (c .before .base-table .ensures, fits _ (now (c .before .before .before .before .before .before .before .before .before .before .before .before .args .setup)) _ _ _ (sym (c .before .before .before .before .before .begin .ensures) ∙ c .before .before .before .start2 .given .1))
 
 returns-2 : tie.Need-returns-2
 returns-2 c = met _ _ _ _ _ (sym (c .before .before .before .begin .ensures) ∙ c .before .start .given .1) refl
 
 returns-3 : tie.Need-returns-3
-returns-3 c = let a = c .before .before .before .before .before .before .before .before .before .before .before .args in
-    let e = sym (c .before .before .before .before .begin .ensures) ∙ c .before .before .start2 .given .1 in
-    let r = setup-read _ _ (sym (c .before .before .before .before .before .before .before .before .read-words .ensures) ∙ c .before .before .before .before .before .before .q .given .1) in
-    met _ _ _ _ _ e (c .plan-leaves .ensures ∙ ap (λ (s : Setup). planLeaves s (c .before .before .start2 .given .0 .1 .0) (now (a .leaves))) (same-setup _ _ _ _ _ _ r e))
+returns-3 c = let a = c .before .before .before .before .before .before .before .before .before .before .before .before .before .args in
+    let v = c .before .before .before .before in
+    let e = sym (v .before .before .begin .ensures) ∙ v .start2 .given .1 in
+    let r = setup-read _ _ (sym (v .before .before .before .before .before .before .read-words .ensures) ∙ v .before .before .before .before .q .given .1) in
+    met _ _ _ _ _ e (c .plan-leaves .ensures ∙ ap (λ (s : Setup). planLeaves s (v .start2 .given .0 .1 .0) (now (a .leaves))) (same-setup _ _ _ _ _ _ r e))
 
 pub plan-level-spec : {M : Type 1} → statement M
 plan-level-spec =
@@ -68,6 +72,7 @@ plan-level-spec =
     begin-requires
     enum-known-start
     enum-known-start-2
+    base-table-requires
     plan-leaves-requires
     returns-2
     returns-3)

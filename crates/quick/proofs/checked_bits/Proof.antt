@@ -10,14 +10,14 @@ use Rattle.quick.proofs.checked_bits.Tie as tie
 cast-refused : tie.Need-cast-refused
 cast-refused c = search needs
 
-shown-bits-requires : tie.Need-shown-bits-requires
-shown-bits-requires c κs = search needs
+level-part-requires : tie.Need-level-part-requires
+level-part-requires c κs = tt
 
 mul-result : tie.Need-mul-result
 mul-result c = let a = c .before .args in omega (arith, byte-low (not (a .passes) && not (eqb (a .s) 0)))
 
 returns : tie.Need-returns
-returns c = let a = c .before .args in rw (c .shown-bits .ensures, byte-is (not (a .passes) && not (eqb (a .s) 0)))
+returns c = let a = c .before .args in rw (c .level-part .ensures, byte-is (not (a .passes) && not (eqb (a .s) 0)))
 
 pub checked-bits-spec : {M : Type 1} → statement M
-checked-bits-spec = tie.close (tie.spec cast-refused shown-bits-requires mul-result returns)
+checked-bits-spec = tie.close (tie.spec cast-refused level-part-requires mul-result returns)

@@ -1,8 +1,9 @@
 -- `quick_rights` meets its contract: each test picks its case. Assumes nothing.
-use mathlib.Core.Path.{_≡_, sym, _∙_}
+use mathlib.Core.Path.{_≡_, sym, ap, _∙_}
 use denote.Ref.{now}
 use borrow.Author.Tests.{le-leb, lt-leb}
 use Rattle.descriptors.specs.Bits.{bit}
+use Rattle.levels.specs.Table.{maskOf}
 use Rattle.memory.specs.Table.{passesWith}
 use Rattle.judgement.proofs.Quick.{quick-known}
 use Rattle.judgement.specs.Quick.{quickBits, quickOf}
@@ -12,23 +13,26 @@ use Rattle.quick.proofs.quick_rights.Tie as tie
 
 -- where both stages are known: the arguments, and the rights by what is known
 abbrev start : tie.After-both-bits → tie.Start
-start c = c .before .before .before .before .before .before .before .before .before .before .before .before .before
+start c = c .before .before .before .before .before .before .before .before .before .before .before .before .before .before
 
 known : (c : tie.After-both-bits) → let a = start c .args in
-    quickOf (a .q) (now (a .slots)) (now (a .attributes)) (a .l)
+    quickOf (a .q) (now (a .base)) (now (a .slots)) (now (a .attributes)) (a .l)
     ≡ quickBits (bit (a .q .control) 0) (c .both-bits .result) (passesWith (now (a .attributes)) (a .q .control) (a .l .stage1) (a .l .stage2))
 known c =
     let a = start c .args in
-    quick-known (a .q) (now (a .slots)) (now (a .attributes)) (a .l) (c .before .before .before .before .before .before .before .first .given .0 .0) (c .both-bits .result) (c .before .before .before .before .before .before .before .before .before .before .if1 .left)
-    (sym (c .before .before .before .before .before .before .before .before .before .stage1-mask .ensures) ∙ c .before .before .before .before .before .before .before .first .given .1)
+    quick-known (a .q) (now (a .base)) (now (a .slots)) (now (a .attributes)) (a .l) (c .before .before .before .before .before .before .before .first .given .0 .0) (c .both-bits .result) (c .before .before .before .before .before .before .before .before .before .before .before .if1 .left)
+    (sym (c .before .before .before .before .before .before .before .before .before .mask-of .ensures ∙ ap maskOf (c .before .before .before .before .before .before .before .before .before .before .stage1-word .ensures)) ∙ c .before .before .before .before .before .before .before .first .given .1)
     (rw (c .before .stage2-mask .ensures, c .before .before .before .before .place .ensures, c .before .before .before .before .before .of .ensures) at (sym (c .both-bits .ensures)))
 
 returns : tie.Need-returns
 unfolding quickOf
 returns c = rw (c .if1 .taken)
 
-stage1-mask-requires : tie.Need-stage1-mask-requires
-stage1-mask-requires c κs = search needs
+stage1-word-requires : tie.Need-stage1-word-requires
+stage1-word-requires c κs = tt
+
+mask-of-requires : tie.Need-mask-of-requires
+mask-of-requires c κs = tt
 
 enum-known-first : tie.Need-enum-known-first
 enum-known-first c = search needs
@@ -38,7 +42,7 @@ enum-told c = search needs
 
 returns-2 : tie.Need-returns-2
 unfolding quickOf
-returns-2 c = rw (c .before .before .before .if1 .left, ← (c .before .before .stage1-mask .ensures), c .enum-told .given .1)
+returns-2 c = rw (c .before .before .before .before .if1 .left, ← (c .before .before .before .stage1-word .ensures), ← (c .before .before .mask-of .ensures), c .enum-told .given .1)
 
 of-requires : tie.Need-of-requires
 of-requires c κs = search needs
@@ -78,7 +82,8 @@ quick-rights-spec =
     tie.close
     (tie.spec
     returns
-    stage1-mask-requires
+    stage1-word-requires
+    mask-of-requires
     enum-known-first
     enum-told
     returns-2
