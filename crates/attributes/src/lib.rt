@@ -8,9 +8,7 @@ ghost use Rattle.descriptors.specs.Descriptor.{stage1Of, stage2Of};
 ghost use Rattle.memory.specs.Order.{attributesOf, checkOf};
 ghost use Rattle.memory.specs.Step.{setupWith};
 use codes::mair::byte_at;
-use codes::mair::stage1_code;
 use codes::mair::valid_byte;
-use codes::stage2::memattr_code;
 use codes::stage2::reserved_code;
 use combine::result_byte;
 use descriptors::Stage1;
@@ -21,6 +19,8 @@ use memory::Memory;
 use memory::step::Reached;
 use records::setup::Setup;
 use shareability::shareability_code;
+use stage_codes::memattr_code;
+use stage_codes::stage1_code;
 
 // The attribute steps of one access: 8 at stage 1, 8 at stage 2, 9, and then the byte and SH. `fetch` is whether it executes.
 pub fn access_attributes(s: Setup, one: Stage1, two: Stage2, fetch: bool) -> Attributes

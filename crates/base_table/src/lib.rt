@@ -37,10 +37,10 @@ fn entry_at(w: u32, p: u64, u: u64, k: usize) -> u16
     if (w >> 3) % 2 == 1 {
         let privileged = ((p >> (4 * k)) % 16) as u8;
         let unprivileged = ((u >> (4 * k)) % 16) as u8;
-        return mask_word(masks::indirect_mask(two, privileged, unprivileged));
+        return mask_word(indirect_masks::indirect_mask(two, privileged, unprivileged));
     }
-    let limits = masks::limits_left(two, (w >> 8) % 2 == 1, k);
-    masks::descriptor_left(two, k) as u16 + 256 * (limits as u16)
+    let limits = direct_masks::limits_left(two, (w >> 8) % 2 == 1, k);
+    direct_masks::descriptor_left(two, k) as u16 + 256 * (limits as u16)
 }
 
 // The table of a setup with control word `w` and PIRs `p` and `u`.
@@ -63,7 +63,7 @@ fn direct_word(base: &[u16; 16], w: u32, d: u64, t: u8) -> u16
     let i = ((d >> 6) % 4 + (d >> 53) % 4 * 4) as usize;
     let j = (t % 16) as usize;
     let left = (base[i] & (base[j] >> 8)) % 256;
-    masks::removed(w, left as u8) as u16 | 192
+    direct_masks::removed(w, left as u8) as u16 | 192
 }
 
 // Stage 1 up to the overlay by a setup's table: `w` is the control word, `d` is the descriptor and `t` the limits.

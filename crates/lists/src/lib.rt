@@ -14,10 +14,10 @@ use judgement::LeafRights;
 use judgement::Listed;
 use leaves::leaf_rights;
 use quick::quick_rights;
-use quick::slot_table;
 use records::leaf::LeafRead;
 use records::setup::Words;
 use records::setup::WordsRead;
+use slot_table::slot_table;
 
 // Every leaf was judged, or the first refusal with its leaf's index.
 enum Walked {

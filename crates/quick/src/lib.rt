@@ -1,58 +1,12 @@
 // The rights of a leaf, both levels at once; or a number from 64 on where an access may be refused, and `leaves` judges the leaf. Part of the
 // judge. No public function has a `requires`.
 ghost use mathlib.Core.Path.{_≡_};
-ghost use Prim.Native.Nat.{_<_};
-ghost use Rattle.judgement.specs.Quick.{reserves, grantsAt, reservesAt, overlaidBits, stage2Bits, checkedBits, bothBits, SlotTable, quickOf};
+ghost use Rattle.judgement.specs.Quick.{overlaidBits, stage2Bits, checkedBits, bothBits, quickOf};
 use descriptors::index::POIndex;
-use masks::level_part;
-use pass::slot_bits;
+use direct_masks::level_part;
 use permissions::Mask;
 use records::leaf::Leaf;
 use records::setup::Words;
-
-// A mask where slot `v` is reserved and the overlay is on.
-fn reserves(on: bool, v: u8) -> u8
-    ensures { λ r. ⌜ (r ≡ reserves on v) × (r < 8) ⌝ }
-{
-    if on & (8 <= v) {
-        return 7;
-    }
-    0
-}
-
-// What the slots at place `k` of both PORs grant, where `w` is the control word.
-fn grants_at(w: u32, p: u64, u: u64, k: usize) -> u8
-    requires { ⌜ k < 8 ⌝ }
-    ensures { λ r. ⌜ r ≡ grantsAt w p u k ⌝ }
-{
-    let low = slot_bits((w >> 4) % 2 == 1, ((p >> (4 * k)) % 16) as u8);
-    let high = slot_bits((w >> 5) % 2 == 1, ((u >> (4 * k)) % 16) as u8);
-    low + 8 * high
-}
-
-// Which of the slots at place `k` of both PORs are reserved.
-fn reserves_at(w: u32, p: u64, u: u64, k: usize) -> u8
-    requires { ⌜ k < 8 ⌝ }
-    ensures { λ r. ⌜ r ≡ reservesAt w p u k ⌝ }
-{
-    let low = reserves((w >> 4) % 2 == 1, ((p >> (4 * k)) % 16) as u8);
-    let high = reserves((w >> 5) % 2 == 1, ((u >> (4 * k)) % 16) as u8);
-    low + 8 * high
-}
-
-// What the slots at each place grant, in entries 0 to 7, and which of them are reserved, in entries 8 to 15.
-pub fn slot_table(w: u32, p: u64, u: u64) -> [u8; 16]
-    ensures { λ r. ⌜ SlotTable w p u r ⌝ }
-{
-    let mut table = [0u8; 16];
-    let mut k: usize = 0;
-    while k < 8 {
-        table[k] = grants_at(w, p, u, k);
-        table[k + 8] = reserves_at(w, p, u, k);
-        k += 1;
-    }
-    table
-}
 
 // The rights that slots leave which grant `g` and of which `r` are reserved.
 fn overlaid_bits(m: u8, g: u8, r: u8) -> u8
