@@ -1,6 +1,7 @@
 // The six accesses by number.
 ghost use mathlib.Core.Path.{_≡_};
-ghost use Rattle.records.specs.Access.{readAccess};
+ghost use Prim.Native.Nat.{_<_};
+ghost use Rattle.records.specs.Access.{accessAt, readAccess};
 
 pub enum Level {
     Privileged,
@@ -25,23 +26,40 @@ pub enum AccessRead {
     Unknown,
 }
 
-fn of(level: Level, right: Right) -> AccessRead
-    ensures { λ r. ⌜ r ≡ AccessRead.Read (record { level = level; right = right }) ⌝ }
+// Accesses 0 to 2 are privileged.
+fn level_of(n: u64) -> Level
+    requires { ⌜ n < 6 ⌝ }
+    ensures { λ r. ⌜ r ≡ accessAt n .level ⌝ }
 {
-    AccessRead::Read(Access { level, right })
+    if n < 3 {
+        return Level::Privileged;
+    }
+    Level::Unprivileged
+}
+
+// Read, write, execute in turn.
+fn right_of(n: u64) -> Right
+    requires { ⌜ n < 6 ⌝ }
+    ensures { λ r. ⌜ r ≡ accessAt n .right ⌝ }
+{
+    let k = n % 3;
+    if k == 0 {
+        return Right::Read;
+    }
+    if k == 1 {
+        return Right::Write;
+    }
+    Right::Execute
 }
 
 // The access of a number.
 pub fn read_access(n: u64) -> AccessRead
     ensures { λ r. ⌜ r ≡ readAccess n ⌝ }
 {
-    match n {
-        0 => of(Level::Privileged, Right::Read),
-        1 => of(Level::Privileged, Right::Write),
-        2 => of(Level::Privileged, Right::Execute),
-        3 => of(Level::Unprivileged, Right::Read),
-        4 => of(Level::Unprivileged, Right::Write),
-        5 => of(Level::Unprivileged, Right::Execute),
-        _ => AccessRead::Unknown,
+    if n < 6 {
+        let level = level_of(n);
+        let right = right_of(n);
+        return AccessRead::Read(Access { level, right });
     }
+    AccessRead::Unknown
 }
