@@ -39,8 +39,8 @@ fn judge_read(s: Setup, l: Leaf, n: u64) -> Judgement
     let Answer::Permitted = answer else {
         return stopped(answer);
     };
-    let one = descriptors::read_stage1(l.stage1);
-    let two = descriptors::read_stage2(l.stage2);
+    let one = fields::read_stage1(l.stage1);
+    let two = fields::read_stage2(l.stage2);
     combined(attributes::access_attributes(s, one, two, (n == 2) | (n == 5)))
 }
 

@@ -73,7 +73,7 @@ fn small(x: u8) -> u64 {
 }
 
 fn print_stage1(d: u64, pir: u64, por: u64) {
-    let f = descriptors::read_stage1(d);
+    let f = fields::read_stage1(d);
     let i = f.piindex;
     let o = f.poindex;
     let on = [
@@ -97,7 +97,7 @@ fn print_stage1(d: u64, pir: u64, por: u64) {
 }
 
 fn print_stage2(d: u64) {
-    let f = descriptors::read_stage2(d);
+    let f = fields::read_stage2(d);
     let on = [f.valid, f.read, f.write, f.af, f.bit51];
     text(b"stage2");
     flags(b" valid read write af bit51", &on);
@@ -108,7 +108,7 @@ fn print_stage2(d: u64) {
 }
 
 fn print_limits(l: u8) {
-    let t = descriptors::read_limits(l);
+    let t = fields::read_limits(l);
     let on = [t.aptable0, t.aptable1, t.pxntable, t.uxntable];
     text(b"limits");
     flags(b" aptable0 aptable1 pxntable uxntable", &on);

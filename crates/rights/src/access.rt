@@ -51,9 +51,9 @@ pub fn judge_stages(s: Setup, one: Stage1, two: Stage2, t: Limits, a: Access) ->
 fn judge_leaf(s: Setup, l: Leaf, a: Access) -> Answer
     ensures { λ x. ⌜ x ≡ leafAnswer s l a ⌝ }
 {
-    let one = descriptors::read_stage1(l.stage1);
-    let two = descriptors::read_stage2(l.stage2);
-    let t = descriptors::read_limits(l.limits);
+    let one = fields::read_stage1(l.stage1);
+    let two = fields::read_stage2(l.stage2);
+    let t = fields::read_limits(l.limits);
     judge_stages(s, one, two, t, a)
 }
 

@@ -1,8 +1,8 @@
 -- `read_stage1` meets its contract: each field is its bits. Assumes nothing.
 use Rattle.descriptors.specs.Descriptor.{stage1Of}
 use borrow.Author.Needs.{needs}
-use Rattle.descriptors.proofs.read_stage1.Statement.{statement}
-use Rattle.descriptors.proofs.read_stage1.Tie as tie
+use Rattle.fields.proofs.read_stage1.Statement.{statement}
+use Rattle.fields.proofs.read_stage1.Tie as tie
 
 cast-t7 : tie.Need-cast-t7
 cast-t7 c = search needs

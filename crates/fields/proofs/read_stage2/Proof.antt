@@ -1,9 +1,9 @@
 -- `read_stage2` meets its contract: each field is its bits. Assumes nothing.
 use mathlib.Core.Path.{refl}
 use Rattle.descriptors.specs.Descriptor.{stage2Of}
 use borrow.Author.Needs.{needs}
-use Rattle.descriptors.proofs.read_stage2.Statement.{statement}
-use Rattle.descriptors.proofs.read_stage2.Tie as tie
+use Rattle.fields.proofs.read_stage2.Statement.{statement}
+use Rattle.fields.proofs.read_stage2.Tie as tie
 
 cast-t7 : tie.Need-cast-t7
 cast-t7 c = search needs

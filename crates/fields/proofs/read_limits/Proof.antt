@@ -1,8 +1,8 @@
 -- `read_limits` meets its contract: each field is its bit. Assumes nothing.
 use mathlib.Core.Path.{refl}
 use Rattle.descriptors.specs.Descriptor.{limitsOf}
-use Rattle.descriptors.proofs.read_limits.Statement.{statement}
-use Rattle.descriptors.proofs.read_limits.Tie as tie
+use Rattle.fields.proofs.read_limits.Statement.{statement}
+use Rattle.fields.proofs.read_limits.Tie as tie
 
 returns : tie.Need-returns
 unfolding limitsOf
