@@ -66,7 +66,8 @@ fn direct_word(base: &[u16; 16], w: u32, d: u64, t: u8) -> u16
     direct_masks::removed(w, left as u8) as u16 | 192
 }
 
-// Stage 1 up to the overlay by a setup's table: `w` is the control word, `d` is the descriptor and `t` the limits.
+// Stage 1 up to the overlay by a setup's table: `w` is the control word, `d` is the descriptor and `t` the limits. 1792 is refusal 7, for dirty
+// state.
 pub fn stage1_word(base: &[u16; 16], w: u32, d: u64, t: u8) -> u16
     ensures { λ r. ⌜ r ≡ stage1Word (now (base .entry)) w d t ⌝ }
 {
@@ -76,8 +77,7 @@ pub fn stage1_word(base: &[u16; 16], w: u32, d: u64, t: u8) -> u16
                 if (d >> 7) % 2 == 1 {
                     return 1792;
                 }
-                let i = PIIndex::of(d).place();
-                return base[i];
+                return PIIndex::of(d).pick(base);
             }
             if (d >> 51) % 2 == 1 {
                 return 1792;

@@ -2,6 +2,8 @@
 -- A definition for each field that the paper names; no other bit of a descriptor is read. Assumes nothing.
 use Prim.Native.Nat.{ℕ, _+_, _*_, _%_}
 use mathlib.Core.Bool.{Bool}
+use mathlib.Core.List.{List}
+use lib.ListN.{getD}
 use Rattle.descriptors.specs.Bits.{bit, field, nibble}
 use Rattle.descriptors.specs.declared.index.PIIndex.{PIIndex}
 use Rattle.descriptors.specs.declared.index.POIndex.{POIndex}
@@ -105,12 +107,15 @@ stage2Of d = record {
   bit51 = bit51 d;
 }
 
--- the place of the base code that a PIIndex picks, 0 to 15, and the code in a PIR
+-- the place of the base code that a PIIndex picks, 0 to 15; the code in a PIR, and the entry of a table that has one for each place
 abbrev pub codePlace : PIIndex → ℕ
 codePlace i = i .0 % 16
 
 abbrev pub codeAt : ℕ → PIIndex → ℕ
 codeAt pir i = nibble pir (codePlace i)
+
+abbrev pub entryOf : List ℕ → PIIndex → ℕ
+entryOf t i = getD t (codePlace i) 0
 
 -- the place of the overlay slot that a POIndex picks, 0 to 7, and the slot in a POR
 abbrev pub placeOf : POIndex → ℕ

@@ -1,7 +1,7 @@
 // PIIndex picks a base code and POIndex picks an overlay slot. Their fields are private and descriptor decoding alone
 // makes them, so that neither can stand where the other belongs.
 ghost use mathlib.Core.Path.{_≡_};
-ghost use Rattle.descriptors.specs.Descriptor.{piIndex, poIndex, codePlace, codeAt, placeOf, slotAt};
+ghost use Rattle.descriptors.specs.Descriptor.{piIndex, poIndex, codeAt, entryOf, placeOf, slotAt};
 
 pub struct PIIndex(u8);
 
@@ -23,12 +23,13 @@ impl PIIndex {
         ((pir >> (4 * (i % 16))) % 16) as u8
     }
 
-    // The place of that code, 0 to 15.
-    pub fn place(self) -> usize
-        ensures { λ r. ⌜ r ≡ codePlace self ⌝ }
+    // The entry at this index of a table that has one for each place of the PIRs.
+    pub fn pick(self, table: &[u16; 16]) -> u16
+        ensures { λ r. ⌜ r ≡ entryOf (now (table .entry)) self ⌝ }
     {
-        let i = self.0;
-        (i % 16) as usize
+        let k = self.0;
+        let i = (k % 16) as usize;
+        table[i]
     }
 }
 

@@ -29,7 +29,7 @@ use Rattle.stages.specs.Overlay.{bitOf}
 use Rattle.levels.specs.Level.{rangeOf}
 use Rattle.levels.specs.Masks.{setupWith, stage1Mask, stage2Mask, rangeMask}
 use Rattle.levels.specs.Pass.{stage1Pass, stage2Pass}
-use Rattle.levels.specs.Table.{maskWord, maskOf, pairAt, entryAt, BaseTable, directWord, stage1Word, stage1With, rangeFrom, rangeBy}
+use Rattle.levels.specs.Table.{maskWord, maskOf, pairAt, entryAt, BaseTable, directWord, stage1Word, stage1With, fullAndBare, rangeBy}
 use Rattle.levels.proofs.Masks.{base-small, six-small, from-base, stage1-direct, range-masks}
 
 -- a mask is known from its number
@@ -127,6 +127,6 @@ pub range-by : (q : Words) (b : List ℕ) (d e t : ℕ) (l : Level) → BaseTabl
     → rangeBy q b d e t l ≡ rangeMask (rangeOf (setupFrom q) (stage1Of d) (stage2Of e) (limitsOf t) l)
 unfolding rangeBy
 range-by q b d e t l h =
-    ap (λ (x : Mask). rangeFrom (bitOf (controlOf (q .control) .overlay) l) (placeOf (poIndex d)) x (stage2Mask (stage2Pass (bit (q .control) 2) (stage2Of e))) l)
+    ap (λ (x : Mask). fullAndBare (bitOf (controlOf (q .control) .overlay) l) (placeOf (poIndex d)) x (stage2Mask (stage2Pass (bit (q .control) 2) (stage2Of e))) l)
     (with-table b (q .control) (q .pir .privileged) (q .pir .unprivileged) d t h)
     ∙ range-masks q d e t l

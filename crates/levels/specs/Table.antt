@@ -8,7 +8,7 @@ use lib.Bits.{bitAnd, bitOr}
 use lib.Dec.{ltb}
 use lib.ListN.{getD}
 use Rattle.descriptors.specs.Bits.{bit, nibble}
-use Rattle.descriptors.specs.Descriptor.{stage2Of, piIndex, codePlace, poIndex, placeOf}
+use Rattle.descriptors.specs.Descriptor.{stage2Of, piIndex, entryOf, poIndex, placeOf}
 use Rattle.records.specs.Setup.{controlOf}
 use Rattle.records.specs.declared.access.Level.{Level}
 use Rattle.records.specs.declared.setup.Words.{Words}
@@ -46,22 +46,22 @@ abbrev pub directWord : List ℕ → ℕ → ℕ → ℕ → ℕ
 directWord b w d t =
     bitOr (removed (bit w 6) (bit w 7) (bitAnd (getD b (descriptorPlace d) 0) (getD b (t % 16) 0 / 2 ^ 8) % 256)) 192
 
--- stage 1 up to the overlay by table b: a fault of every access is no rights, and dirty state is 7
+-- stage 1 up to the overlay by table b: a fault of every access is no rights, and dirty state is 7, as a mask's number 1792
 unfoldable pub stage1Word : List ℕ → ℕ → ℕ → ℕ → ℕ
 stage1Word b w d t =
     cond (bit w 1)
     (cond (bit d 0 && bit d 10)
-    (cond (bit w 3) (cond (bit d 7) 1792 (getD b (codePlace (piIndex d)) 0)) (cond (bit d 51) 1792 (directWord b w d t))) 0) 63
+    (cond (bit w 3) (cond (bit d 7) 1792 (entryOf b (piIndex d))) (cond (bit d 51) 1792 (directWord b w d t))) 0) 63
 
 abbrev pub stage1With : List ℕ → ℕ → ℕ → ℕ → Mask
 stage1With b w d t = maskOf (stage1Word b w d t)
 
 -- what the planner asks of a level: its rights with slot 7 and with slot 0, where stage 1 gives x and stage 2 gives y
-abbrev pub rangeFrom : Bool → ℕ → Mask → Mask → Level → RangeMask
-rangeFrom on k x y l = rangeWith k (maskWith on x 7 y l) (maskWith on x 0 y l)
+abbrev pub fullAndBare : Bool → ℕ → Mask → Mask → Level → RangeMask
+fullAndBare on k x y l = rangeWith k (maskWith on x 7 y l) (maskWith on x 0 y l)
 
 -- the same for descriptors d and e and limits t by table b
 unfoldable pub rangeBy : Words → List ℕ → ℕ → ℕ → ℕ → Level → RangeMask
 rangeBy q b d e t l =
-    rangeFrom (bitOf (controlOf (q .control) .overlay) l) (placeOf (poIndex d)) (stage1With b (q .control) d t)
+    fullAndBare (bitOf (controlOf (q .control) .overlay) l) (placeOf (poIndex d)) (stage1With b (q .control) d t)
     (stage2Mask (stage2Pass (bit (q .control) 2) (stage2Of e))) l

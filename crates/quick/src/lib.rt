@@ -34,8 +34,8 @@ fn stage2_bits(o: u8, t: Mask) -> u8
     }
 }
 
-// The attribute steps, which refuse nothing where `passes`: else bit 6 marks rights that reach them. With one level bits 3 to 5 are 0. There is no branch, since no processor
-// predicts which leaves have rights.
+// The attribute steps, which refuse nothing where `passes`: else bit 6 marks rights that reach them. With one level bits 3 to 5 are 0. There is
+// no branch, since no processor predicts which leaves have rights.
 fn checked_bits(two: bool, s: u8, passes: bool) -> u8
     ensures { λ x. ⌜ x ≡ checkedBits two s passes ⌝ }
 {

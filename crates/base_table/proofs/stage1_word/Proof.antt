@@ -1,7 +1,6 @@
 -- `stage1_word` meets its contract: each test picks its case. Assumes nothing.
 use borrow.Author.Tests.{eq-eqb, ne-eqb}
 use Rattle.levels.specs.Table.{stage1Word}
-use borrow.Author.Needs.{needs}
 use Rattle.base_table.proofs.stage1_word.Statement.{statement}
 use Rattle.base_table.proofs.stage1_word.Tie as tie
 
@@ -12,18 +11,12 @@ returns c = rw (eq-eqb _ _ (c .before .before .before .if1 .taken), c .before .b
 of-requires : tie.Need-of-requires
 of-requires c κs = tt
 
-place-requires : tie.Need-place-requires
-place-requires c κs = tt
-
-mul-result : tie.Need-mul-result
-mul-result c = search needs
-
-element-copy-out-result : tie.Need-element-copy-out-result
-element-copy-out-result c = search needs
+pick-requires : tie.Need-pick-requires
+pick-requires c κs = tt
 
 returns-2 : tie.Need-returns-2
 unfolding stage1Word
-returns-2 c = rw (c .before .place .ensures, c .before .before .of .ensures, eq-eqb _ _ (c .before .before .before .before .before .before .if1 .taken), c .before .before .before .before .before .if2 .taken, eq-eqb _ _ (c .before .before .before .before .if3 .taken), ne-eqb _ _ (c .before .before .before .if4 .left))
+returns-2 c = rw (c .pick .ensures, c .before .of .ensures, eq-eqb _ _ (c .before .before .before .before .before .if1 .taken), c .before .before .before .before .if2 .taken, eq-eqb _ _ (c .before .before .before .if3 .taken), ne-eqb _ _ (c .before .before .if4 .left))
 
 returns-3 : tie.Need-returns-3
 unfolding stage1Word
@@ -50,9 +43,7 @@ stage1-word-spec =
     (tie.spec
     returns
     of-requires
-    place-requires
-    mul-result
-    element-copy-out-result
+    pick-requires
     returns-2
     returns-3
     direct-word-requires
