@@ -1,11 +1,12 @@
 -- Text put into a buffer piece by piece. Assumes nothing.
 use mathlib.Core.Path.{_≡_, refl, sym, ap, _∙_}
-use mathlib.Core.List.{List, [], _++_, append-assoc, append-nil}
-use Prim.Native.Nat.{ℕ, _+_, _-_, _≤_}
+use mathlib.Core.List.{List, [], _∷_, _++_, append-assoc, append-nil}
+use Prim.Native.Nat.{ℕ, _+_, _-_, _≤_, _<_}
 use native.Mathlib.Nat.{add-assoc, add-zero}
+use native.Mathlib.Numerals.{add-one}
 use native.Mathlib.Omega.{arith}
-use lib.ListN.{length, take, drop, length-append, length-take, length-drop, drop-of-length-le, take-append-drop}
-use lib.Seq.{take-at, drop-at, take-length, drop-drop, length-take-le}
+use lib.ListN.{length, take, drop, set, length-append, length-take, length-drop, drop-of-length-le, take-append-drop}
+use lib.Seq.{take-at, drop-at, take-length, drop-drop, length-take-le, set-split}
 use Rattle.text.specs.Put.{Put}
 
 -- what `bytes::copy` leaves where a word was lent its place
@@ -17,6 +18,10 @@ word-put o w m k h e =
     let z : drop (length w) (take (length w) (drop k o)) ≡ [] = drop-of-length-le (take (length w) (drop k o)) {i = length w} (simp (length-take, length-drop) (omega arith)) in
     let f : m ≡ w = rw (n, z, take-length, append-nil) at e in
     record { bytes = rw (f, n, drop-drop (length w) k o); next = refl }
+
+-- one byte stored
+pub byte-put : (o : List ℕ) (k b : ℕ) → k < length o → Put o k (b ∷ []) (set o k b) (k + 1)
+byte-put o k b h = record { bytes = rw add-one (set-split o k b h); next = refl }
 
 -- nothing put
 pub none : (o : List ℕ) (k : ℕ) → Put o k [] o k

@@ -4,9 +4,9 @@ ghost use mathlib.Core.Path.{_≡_};
 ghost use Prim.Native.Nat.{_+_, _*_, _≤_};
 ghost use lib.ListN.{length};
 ghost use Rattle.io.specs.Counts.{Counts};
-ghost use Rattle.plan.specs.Plan.{planOf};
-ghost use Rattle.text.specs.Listing.{lineAt, linesFrom, planLine, mapLines, mapText, written};
+ghost use Rattle.text.specs.Listing.{lineAt, linesFrom, planLine, planLines, countLine, mapLines, mapText, written};
 ghost use Rattle.text.specs.Put.{Put};
+use crate::put::put_byte;
 use crate::put::put_hex;
 use crate::put::put_leaf;
 use crate::put::put_number;
@@ -20,7 +20,7 @@ mod put;
 
 // A line for each of the first `n` leaves.
 fn put_leaves(out: &mut [u8], at: usize, rights: &[u8], leaves: &[u8], n: usize) -> usize
-    requires { ⌜ (n ≤ 2048) × (n ≤ length (now rights)) × (n * 18 ≤ length (now leaves)) × (at + n * 17 + 96 ≤ length (now out)) ⌝ }
+    requires { ⌜ (n ≤ 2048) × (n ≤ length (now rights)) × (n * 18 ≤ length (now leaves)) × (at + n * 17 + 64 ≤ length (now out)) ⌝ }
     ensures text { λ r. ⌜ Put (now (out .entry)) at (linesFrom (lineAt (now (rights .entry)) (now (leaves .entry))) n 0) (now (out .exit)) r ⌝ }
     ensures next { λ r. ⌜ r ≤ at + n * 17 ⌝ }
 {
@@ -34,18 +34,39 @@ fn put_leaves(out: &mut [u8], at: usize, rights: &[u8], leaves: &[u8], n: usize)
 }
 
 // The register of a level, or its refusal.
-fn put_plan(out: &mut [u8], at: usize, setup: &[u8], level: u64, leaves: &[u8]) -> usize
+fn put_plan(out: &mut [u8], at: usize, plan: Plan) -> usize
     requires { ⌜ at + 64 ≤ length (now out) ⌝ }
-    ensures text { λ r. ⌜ Put (now (out .entry)) at (planLine (planOf (now (setup .entry)) level (now (leaves .entry)))) (now (out .exit)) r ⌝ }
+    ensures text { λ r. ⌜ Put (now (out .entry)) at (planLine plan) (now (out .exit)) r ⌝ }
     ensures next { λ r. ⌜ r ≤ at + 64 ⌝ }
 {
-    match planner::plan_level(setup, level, leaves) {
+    match plan {
         Plan::Register(r) => {
             let end = put_hex(out, at, r);
-            put_word(out, end, b"\n")
+            put_byte(out, end, b'\n')
         }
         Plan::Refused { number, leaf } => put_refusal(out, at, number, leaf),
     }
+}
+
+// A line for each level.
+fn put_plans(out: &mut [u8], at: usize, setup: &[u8], leaves: &[u8]) -> usize
+    requires { ⌜ at + 192 ≤ length (now out) ⌝ }
+    ensures { λ r. ⌜ Put (now (out .entry)) at (planLines (now (setup .entry)) (now (leaves .entry))) (now (out .exit)) r ⌝ }
+{
+    let a = put_word(out, at, b"privileged ");
+    let b = put_plan(out, a, planner::plan_level(setup, 0, leaves));
+    let c = put_word(out, b, b"unprivileged ");
+    put_plan(out, c, planner::plan_level(setup, 1, leaves))
+}
+
+// The leaf count.
+fn put_count(out: &mut [u8], n: usize) -> usize
+    requires { ⌜ (n ≤ 2048) × (64 ≤ length (now out)) ⌝ }
+    ensures text { λ r. ⌜ Put (now (out .entry)) 0 (countLine n) (now (out .exit)) r ⌝ }
+    ensures next { λ r. ⌜ r ≤ 12 ⌝ }
+{
+    let a = put_word(out, 0, b"leaves ");
+    put_number(out, a, n as u64, b'\n')
 }
 
 // The lines of a map whose list is not refused.
@@ -53,13 +74,9 @@ fn put_map(out: &mut [u8], setup: &[u8], leaves: &[u8], n: usize, rights: &[u8])
     requires { ⌜ (n ≤ 2048) × (n ≤ length (now rights)) × (n * 18 ≤ length (now leaves)) × (36864 ≤ length (now out)) ⌝ }
     ensures { λ r. ⌜ Put (now (out .entry)) 0 (mapLines (now (setup .entry)) (now (leaves .entry)) n (now (rights .entry))) (now (out .exit)) r ⌝ }
 {
-    let a = put_word(out, 0, b"leaves ");
-    let b = put_number(out, a, n as u64, b"\n");
-    let c = put_leaves(out, b, rights, leaves, n);
-    let d = put_word(out, c, b"privileged ");
-    let e = put_plan(out, d, setup, 0, leaves);
-    let f = put_word(out, e, b"unprivileged ");
-    put_plan(out, f, setup, 1, leaves)
+    let a = put_count(out, n);
+    let b = put_leaves(out, a, rights, leaves, n);
+    put_plans(out, b, setup, leaves)
 }
 
 // The text of a map: its lines, or the refusal of its list.

@@ -1,9 +1,10 @@
 // Words and numbers put into a buffer from an index on. Each answers the index after what it put.
 ghost use mathlib.Core.Path.{_≡_};
 ghost use Prim.Native.Nat.{_+_, _*_, _≤_, _<_};
+ghost use mathlib.Core.List.{[], _∷_};
 ghost use lib.ListN.{length};
 ghost use Rattle.text.specs.Words.{decimal, hex16};
-ghost use Rattle.text.specs.Listing.{numberThen, refusalLine, leafLine};
+ghost use Rattle.text.specs.Listing.{numberThen, leafThen, refusalLine, leafLine};
 ghost use Rattle.text.specs.Put.{Put};
 
 pub(crate) fn put_word(out: &mut [u8], at: usize, word: &[u8]) -> usize
@@ -35,20 +36,48 @@ pub(crate) fn put_hex(out: &mut [u8], at: usize, n: u64) -> usize
     put_word(out, at, &digits[..k])
 }
 
-// A number in decimal, and a word after it.
-pub(crate) fn put_number(out: &mut [u8], at: usize, n: u64, word: &[u8]) -> usize
-    requires { ⌜ at + 20 + length (now word) ≤ length (now out) ⌝ }
-    ensures text { λ r. ⌜ Put (now (out .entry)) at (numberThen n (now (word .entry))) (now (out .exit)) r ⌝ }
-    ensures next { λ r. ⌜ r ≡ at + length (decimal n) + length (now (word .entry)) ⌝ }
+// One byte.
+pub(crate) fn put_byte(out: &mut [u8], at: usize, byte: u8) -> usize
+    requires { ⌜ at < length (now out) ⌝ }
+    ensures { λ r. ⌜ Put (now (out .entry)) at (byte ∷ []) (now (out .exit)) r ⌝ }
+{
+    out[at] = byte;
+    at + 1
+}
+
+// A number in decimal, and a byte after it.
+pub(crate) fn put_number(out: &mut [u8], at: usize, n: u64, byte: u8) -> usize
+    requires { ⌜ at + 21 ≤ length (now out) ⌝ }
+    ensures text { λ r. ⌜ Put (now (out .entry)) at (numberThen n (byte ∷ [])) (now (out .exit)) r ⌝ }
+    ensures next { λ r. ⌜ r ≡ at + length (decimal n) + 1 ⌝ }
 {
     let end = put_decimal(out, at, n);
-    put_word(out, end, word)
+    put_byte(out, end, byte)
 }
 
 fn wide(x: u8) -> u64
     ensures { λ r. ⌜ r ≡ x ⌝ }
 {
     x as u64
+}
+
+// A number of at most three digits, and a byte after it.
+pub(crate) fn put_short(out: &mut [u8], at: usize, n: u8, byte: u8) -> usize
+    requires { ⌜ at + 21 ≤ length (now out) ⌝ }
+    ensures text { λ r. ⌜ Put (now (out .entry)) at (numberThen n (byte ∷ [])) (now (out .exit)) r ⌝ }
+    ensures next { λ r. ⌜ r ≤ at + 4 ⌝ }
+{
+    put_number(out, at, wide(n), byte)
+}
+
+// The leaf of a refusal, and the end of its line.
+fn put_at_leaf(out: &mut [u8], at: usize, leaf: usize) -> usize
+    requires { ⌜ at + 26 ≤ length (now out) ⌝ }
+    ensures text { λ r. ⌜ Put (now (out .entry)) at (leafThen leaf) (now (out .exit)) r ⌝ }
+    ensures next { λ r. ⌜ r ≤ at + 26 ⌝ }
+{
+    let a = put_word(out, at, b"leaf ");
+    put_number(out, a, leaf as u64, b'\n')
 }
 
 // The line of a refusal.
@@ -59,21 +88,21 @@ pub(crate) fn put_refusal(out: &mut [u8], at: usize, number: u8, leaf: usize) ->
 {
     let a = put_word(out, at, b"refused ");
     if (5 <= number) & (number <= 10) {
-        let b = put_number(out, a, wide(number), b" leaf ");
-        put_number(out, b, leaf as u64, b"\n")
+        let b = put_short(out, a, number, b' ');
+        put_at_leaf(out, b, leaf)
     } else {
-        put_number(out, a, wide(number), b"\n")
+        put_short(out, a, number, b'\n')
     }
 }
 
 // The line of a leaf: index, rights, forbidden and their common bits.
 pub(crate) fn put_leaf(out: &mut [u8], at: usize, i: usize, r: u8, f: u8) -> usize
-    requires { ⌜ (at + 96 ≤ length (now out)) × (i < 2048) ⌝ }
+    requires { ⌜ (at + 64 ≤ length (now out)) × (i < 2048) ⌝ }
     ensures text { λ e. ⌜ Put (now (out .entry)) at (leafLine i r f) (now (out .exit)) e ⌝ }
     ensures next { λ e. ⌜ e ≤ at + 17 ⌝ }
 {
-    let a = put_number(out, at, i as u64, b" ");
-    let b = put_number(out, a, wide(r), b" ");
-    let c = put_number(out, b, wide(f), b" ");
-    put_number(out, c, wide(r & f), b"\n")
+    let a = put_number(out, at, i as u64, b' ');
+    let b = put_short(out, a, r, b' ');
+    let c = put_short(out, b, f, b' ');
+    put_short(out, c, r & f, b'\n')
 }

@@ -6,23 +6,17 @@ use borrow.Author.Needs.{needs}
 use Rattle.text.proofs.put_plan.Statement.{statement}
 use Rattle.text.proofs.put_plan.Tie as tie
 
-plan-level-requires : tie.Need-plan-level-requires
-plan-level-requires c κs = search needs
-
-enum-known-r : tie.Need-enum-known-r
-enum-known-r c = search needs
+enum-known-plan : tie.Need-enum-known-plan
+enum-known-plan c = search needs
 
 put-hex-requires : tie.Need-put-hex-requires
 put-hex-requires c κs = search needs
 
-slice-aggregate-put-word : tie.Need-slice-aggregate-put-word
-slice-aggregate-put-word c = search needs
+put-byte-requires : tie.Need-put-byte-requires
+put-byte-requires c κs = let h = c .before .before .before .put-hex in omega (arith, h .ensures .next, hex-length (c .before .before .before .before .before .before .plan .given .0 .0), h .kept .0, c .before .before .before .before .before .before .before .before .before .pre)
 
-put-word-requires : tie.Need-put-word-requires
-put-word-requires c κs = let p = c .before .before .before .before .put-hex in omega (arith, p .ensures .next, hex-length (c .before .before .before .before .before .before .before .r .given .0 .0), p .kept .0, c .before .before .before .before .before .before .before .before .before .before .before .before .before .pre)
-
-enum-known-number : tie.Need-enum-known-number
-enum-known-number c = search needs
+enum-known-plan-2 : tie.Need-enum-known-plan-2
+enum-known-plan-2 c = search needs
 
 put-refusal-requires : tie.Need-put-refusal-requires
 put-refusal-requires c κs = search needs
@@ -32,27 +26,24 @@ same-length c = search needs
 
 returns : tie.Need-returns
 returns c =
-    let p = c .before .before .before .before .before .before .before .put-hex in
-    let q = c .before .before .put-word in
-    rw (← (c .before .before .before .before .before .before .before .before .before .before .before .before .plan-level .ensures .0), c .before .before .before .before .before .before .before .before .before .before .r .given .1)
-    (then _ _ _ _ _ _ _ _ (omega (arith, c .before .before .before .before .before .before .before .before .before .before .before .before .before .before .before .before .pre)) (p .ensures) (q .ensures), omega (arith, p .ensures .next, q .ensures .next, hex-length (c .before .before .before .before .before .before .before .before .before .before .r .given .0 .0)))
+    let h = c .before .before .before .before .before .before .put-hex in
+    let b = c .before .before .put-byte in
+    rw (c .before .before .before .before .before .before .before .before .before .plan .given .1) (then _ _ _ _ _ _ _ _ (omega (arith, c .before .before .before .before .before .before .before .before .before .before .before .before .pre)) (h .ensures) (b .ensures), omega (arith, h .ensures .next, b .ensures .next, hex-length (c .before .before .before .before .before .before .before .before .before .plan .given .0 .0)))
 
 same-length-2 : tie.Need-same-length-2
 same-length-2 c = search needs
 
 returns-2 : tie.Need-returns-2
-returns-2 c = rw (← (c .before .before .before .before .before .before .before .plan-level .ensures .0), c .before .before .before .before .before .number .given .1) (c .before .before .put-refusal .ensures)
+returns-2 c = rw (c .before .before .before .before .before .plan2 .given .1) (c .before .before .put-refusal .ensures)
 
 pub put-plan-spec : {M : Type 1} → statement M
 put-plan-spec =
     tie.close
     (tie.spec
-    plan-level-requires
-    enum-known-r
+    enum-known-plan
     put-hex-requires
-    slice-aggregate-put-word
-    put-word-requires
-    enum-known-number
+    put-byte-requires
+    enum-known-plan-2
     put-refusal-requires
     same-length
     returns
