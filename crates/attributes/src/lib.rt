@@ -17,7 +17,7 @@ use memory::Attributes;
 use memory::Check;
 use memory::Memory;
 use memory::step::Reached;
-use records::setup::Setup;
+use setups::Setup;
 use shareability::shareability_code;
 use stage_codes::memattr_code;
 use stage_codes::stage1_code;

@@ -6,8 +6,8 @@ use descriptors::Limits;
 use descriptors::Stage1;
 use permissions::Base;
 use permissions::BaseAnswer;
-use records::setup::LevelBits;
-use records::setup::Setup;
+use setups::LevelBits;
+use setups::Setup;
 
 // The base rights of a stage 1 descriptor: by Direct or Indirect permissions.
 pub fn base_rights(s: Setup, d: Stage1, t: Limits) -> BaseAnswer

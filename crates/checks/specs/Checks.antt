@@ -2,16 +2,16 @@
 use Prim.Native.Nat.{ℕ}
 use mathlib.Core.Bool.{Bool, cond, not, _&&_, _||_}
 use lib.Dec.{leb, ltb, eqb}
-use Rattle.records.specs.Access.{accessAt}
-use Rattle.records.specs.declared.access.Level.the-variants.{Privileged, Unprivileged}
+use Rattle.accesses.specs.Access.{accessAt}
+use Rattle.accesses.specs.declared.Level.the-variants.{Privileged, Unprivileged}
 use Rattle.records.specs.declared.leaf.Leaf.{Leaf}
-use Rattle.records.specs.declared.setup.Control.{Control}
-use Rattle.checks.specs.Answers.{follow, refuseIf}
-use Rattle.checks.specs.declared.answer.Answer.{Answer}
-use Rattle.checks.specs.declared.checks.AccessCheck.{AccessCheck}
-use Rattle.checks.specs.declared.checks.AccessCheck.the-variants as access
-use Rattle.checks.specs.declared.checks.LevelCheck.{LevelCheck}
-use Rattle.checks.specs.declared.checks.LevelCheck.the-variants as level
+use Rattle.setups.specs.declared.Control.{Control}
+use Rattle.answers.specs.Answers.{follow, refuseIf}
+use Rattle.answers.specs.declared.Answer.{Answer}
+use Rattle.checks.specs.declared.AccessCheck.{AccessCheck}
+use Rattle.checks.specs.declared.AccessCheck.the-variants as access
+use Rattle.checks.specs.declared.LevelCheck.{LevelCheck}
+use Rattle.checks.specs.declared.LevelCheck.the-variants as level
 
 -- 2: two levels clear with stage 2, unprivileged overlay or PAN set; or DC with stage 1 on or stage 2 off
 abbrev pub clash : Control → Bool

@@ -4,7 +4,7 @@ ghost use Prim.Native.Nat.{_<_};
 ghost use Rattle.memory.specs.Mair.{classOf};
 ghost use Rattle.memory.specs.Combine.{withDevice, weaker, levelNibble, normalByte, combineClear, combineSet, combine, resultOf};
 use codes::mair::is_device;
-use records::setup::Setup;
+use setups::Setup;
 
 // The class of a nibble: 1 Non-cacheable, 2 Write-Through, 3 Write-Back.
 fn class(n: u8) -> u8

@@ -2,12 +2,12 @@
 ghost use mathlib.Core.Path.{_≡_};
 ghost use Rattle.plan.specs.Masks.{forbiddenBits, maskPlan, planBy};
 ghost use Rattle.plan.specs.Plan.{refusalOf};
-use checks::answer::Answer;
+use accesses::Level;
+use answers::Answer;
 use levels::RangeMask;
 use plan::LeafPlan;
-use records::access::Level;
 use records::leaf::LeafRead;
-use records::setup::Words;
+use records::words::Words;
 use starts::number_of;
 
 // The slot bits R, X, W of rights whose bits are R, W, X.
@@ -59,7 +59,7 @@ pub fn plan_leaf(q: Words, base: &[u16; 16], l: Level, leaf: &[u8]) -> LeafPlan
     let LeafRead::Read(f) = read else {
         return LeafPlan::Refused(13);
     };
-    let check = checks::checks::check_leaf(f);
+    let check = checks::check_leaf(f);
     let Answer::Permitted = check else {
         return LeafPlan::Refused(number_of(check));
     };

@@ -4,7 +4,7 @@ ghost use Rattle.permissions.specs.Direct.{directTwo, directOne, directOf};
 use descriptors::Limits;
 use descriptors::Stage1;
 use permissions::Rights;
-use records::setup::Control;
+use setups::Control;
 
 // With two levels, in the order of the definition's steps: AP, APTable, PXN and UXN, their tables, unprivileged write, WXN, PAN.
 fn two_levels(c: Control, d: Stage1, t: Limits) -> Rights

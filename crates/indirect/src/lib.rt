@@ -10,9 +10,9 @@ use permissions::Base;
 use permissions::BaseAnswer;
 use permissions::Code;
 use permissions::Rights;
-use records::setup::Control;
-use records::setup::LevelBits;
-use records::setup::LevelRegisters;
+use records::words::LevelRegisters;
+use setups::Control;
+use setups::LevelBits;
 
 // The sixteen base codes as bits: 0 R, 1 W, 2 X, 3 overlays apply, 4 reserved, 5 not judged.
 const CODES: [u8; 16] = [8, 9, 12, 13, 24, 11, 40, 15, 1, 1, 5, 16, 3, 16, 7, 16];

@@ -2,13 +2,13 @@
 ghost use mathlib.Core.Path.{_≡_};
 ghost use Rattle.judgement.specs.Demands.{JudgeDemands};
 ghost use Rattle.judgement.specs.Judge.{stopped, combined, judged, judgeOf};
-use checks::answer::Answer;
+use answers::Answer;
 use judgement::Judgement;
 use memory::Attributes;
 use records::leaf::Leaf;
 use records::leaf::LeafRead;
-use records::setup::Setup;
-use records::setup::SetupRead;
+use setups::Setup;
+use setups::SetupRead;
 
 // The fault or refusal of an access that is not permitted.
 fn stopped(a: Answer) -> Judgement
@@ -49,7 +49,7 @@ pub fn judge_access(setup: &[u8], leaf: &[u8], access: u64) -> Judgement
     ensures answer { λ r. ⌜ r ≡ judgeOf (now (setup .entry)) (now (leaf .entry)) access ⌝ }
     ensures demands { λ r. ⌜ JudgeDemands (now (setup .entry)) (now (leaf .entry)) access r ⌝ }
 {
-    let SetupRead::Read(s) = records::setup::read_setup(setup) else {
+    let SetupRead::Read(s) = setups::read_setup(setup) else {
         return Judgement::Refused(13);
     };
     let LeafRead::Read(l) = records::leaf::read_leaf(leaf) else {

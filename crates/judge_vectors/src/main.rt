@@ -3,8 +3,8 @@
 // 0 an access: control, both descriptors, limits, access, name, with MAIR 4FAA0444FF00 and other registers 0;
 // 1 a list of zeros, whose leaves are invalid: control, the list's length, the output's, name;
 // 2 a list of two leaves: control, MAIR, PIRs, PORs, then both descriptors and limits of each, name.
-use checks::answer::Fault;
-use checks::answer::Kind;
+use answers::Fault;
+use answers::Kind;
 use judgement::Judgement;
 use judgement::Listed;
 use libc::STDIN_FILENO;

@@ -7,27 +7,27 @@ use Prim.Native.Nat.{ℕ, _+_, _*_}
 use native.Mathlib.Nat.{mul-one, mul-zero, zero-add, add-assoc}
 use native.Mathlib.Omega.{arith}
 use lib.Dec.{leb, ltb}
-use Rattle.records.specs.Access.{accessOf, accessAt}
+use Rattle.accesses.specs.Access.{accessOf, accessAt}
 use Rattle.descriptors.specs.Descriptor.{stage1Of, stage2Of, limitsOf}
-use Rattle.records.specs.declared.access.Access.{Access}
-use Rattle.records.specs.declared.access.Level.{Level}
-use Rattle.records.specs.declared.access.Level.the-variants.{Privileged, Unprivileged}
-use Rattle.records.specs.declared.access.Right.{Right}
-use Rattle.records.specs.declared.access.Right.the-variants.{Read, Write, Execute}
+use Rattle.accesses.specs.declared.Access.{Access}
+use Rattle.accesses.specs.declared.Level.{Level}
+use Rattle.accesses.specs.declared.Level.the-variants.{Privileged, Unprivileged}
+use Rattle.accesses.specs.declared.Right.{Right}
+use Rattle.accesses.specs.declared.Right.the-variants.{Read, Write, Execute}
 use Rattle.records.specs.declared.leaf.Leaf.{Leaf}
-use Rattle.records.specs.declared.setup.Setup.{Setup}
+use Rattle.setups.specs.declared.Setup.{Setup}
 use Rattle.levels.proofs.Levels.{refused-permits}
-use Rattle.checks.specs.Answers.{follow, permitted}
+use Rattle.answers.specs.Answers.{follow, permitted}
 use Rattle.checks.specs.Checks.{setupCheck, accessCheck, leafCheck}
 use Rattle.levels.specs.Level.{unlessRefused, collect, levelOf, levelsOf}
 use Rattle.rights.specs.Order.{leafAnswer, rightsAnswer}
-use Rattle.checks.specs.declared.checks.AccessCheck.the-variants as access
-use Rattle.stages.specs.Overlay.{three}
-use Rattle.checks.specs.declared.answer.Answer.{Answer}
-use Rattle.checks.specs.declared.answer.Answer.the-variants as answer
-use Rattle.stages.specs.declared.level.LevelAnswer.{LevelAnswer}
-use Rattle.stages.specs.declared.level.LevelAnswer.the-variants as level
-use Rattle.stages.specs.declared.level.LevelRights.{LevelRights}
+use Rattle.checks.specs.declared.AccessCheck.the-variants as access
+use Rattle.stages.specs.LevelRights.{three}
+use Rattle.answers.specs.declared.Answer.{Answer}
+use Rattle.answers.specs.declared.Answer.the-variants as answer
+use Rattle.stages.specs.declared.LevelAnswer.{LevelAnswer}
+use Rattle.stages.specs.declared.LevelAnswer.the-variants as level
+use Rattle.stages.specs.declared.LevelRights.{LevelRights}
 use Rattle.memory.proofs.Laws.{passes, refuses}
 use Rattle.memory.specs.Order.{attributesOf, checkOf}
 use Rattle.memory.specs.declared.Check.{Check}

@@ -10,7 +10,7 @@ use lib.ListN.{length, getD}
 use Rattle.records.proofs.Cases.{at, each}
 use Rattle.descriptors.specs.Bits.{bit}
 use Rattle.records.specs.declared.leaf.Leaf.{Leaf}
-use Rattle.records.specs.declared.setup.Setup.{Setup}
+use Rattle.setups.specs.declared.Setup.{Setup}
 use Rattle.judgement.specs.Demands.{isAllowed, judgedBit}
 use Rattle.judgement.specs.Judge.{judged}
 use Rattle.judgement.specs.LeafRights.{add, gather, accesses, leafRights}

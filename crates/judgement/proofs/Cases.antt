@@ -4,7 +4,8 @@ use mathlib.Core.List.{map, _∷_, []}
 use Rattle.records.specs.Bytes.{le64}
 use Rattle.records.specs.Leaf.{leafOf, readLeaf}
 use Rattle.descriptors.specs.Descriptor.{limitsOf, stage1Of, stage2Of}
-use Rattle.records.specs.Setup.{controlOf, wordsOf, setupFrom, setupOf, readSetup}
+use Rattle.records.specs.Words.{wordsOf}
+use Rattle.setups.specs.Setup.{controlOf, setupFrom, setupOf, readSetup}
 use Rattle.permissions.specs.Base.{baseOf}
 use Rattle.permissions.specs.Direct.{ap, directTwo, directOne, directOf}
 use Rattle.checks.specs.Checks.{setupCheck, accessCheck, leafCheck}

@@ -9,27 +9,28 @@ use native.Mathlib.Nat.{zero-add}
 use native.Mathlib.Omega.{arith}
 use lib.ListN.{length, getD, drop, List·getD-append}
 use lib.Seq.{drop-at}
-use Rattle.records.proofs.Lengths.{setup-13, leaf-13}
-use Rattle.records.specs.Access.{accessAt}
+use Rattle.records.proofs.Lengths.{leaf-13}
+use Rattle.setups.proofs.Words.{setup-13}
+use Rattle.accesses.specs.Access.{accessAt}
 use Rattle.descriptors.specs.Descriptor.{stage1Of, stage2Of}
 use Rattle.records.specs.Leaf.{readLeaf}
 use Rattle.records.specs.Bytes.{over}
-use Rattle.records.specs.Setup.{readSetup}
+use Rattle.setups.specs.Setup.{readSetup}
 use Rattle.records.specs.declared.leaf.Leaf.{Leaf}
 use Rattle.records.specs.declared.leaf.LeafRead.{LeafRead}
 use Rattle.records.specs.declared.leaf.LeafRead.the-variants as leaf
-use Rattle.records.specs.declared.setup.Setup.{Setup}
-use Rattle.records.specs.declared.setup.SetupRead.{SetupRead}
-use Rattle.records.specs.declared.setup.SetupRead.the-variants as setup
+use Rattle.setups.specs.declared.Setup.{Setup}
+use Rattle.setups.specs.declared.SetupRead.{SetupRead}
+use Rattle.setups.specs.declared.SetupRead.the-variants as setup
 use Rattle.rights.proofs.Named.{Named, permits, faults, refuses, named, stages-answer}
-use Rattle.checks.specs.Answers.{follow}
+use Rattle.answers.specs.Answers.{follow}
 use Rattle.checks.specs.Checks.{setupCheck}
 use Rattle.rights.specs.Order.{stagesAnswer, leafAnswer, rightsAnswer}
-use Rattle.checks.specs.declared.answer.Answer.{Answer}
-use Rattle.checks.specs.declared.answer.Answer.the-variants as answer
-use Rattle.checks.specs.declared.answer.Fault.{Fault}
-use Rattle.checks.specs.declared.answer.Kind.{Kind}
-use Rattle.checks.specs.declared.answer.Kind.the-variants.{Translation, AccessFlag, Permission, Overlay}
+use Rattle.answers.specs.declared.Answer.{Answer}
+use Rattle.answers.specs.declared.Answer.the-variants as answer
+use Rattle.answers.specs.declared.Fault.{Fault}
+use Rattle.answers.specs.declared.Kind.{Kind}
+use Rattle.answers.specs.declared.Kind.the-variants.{Translation, AccessFlag, Permission, Overlay}
 use Rattle.memory.proofs.Laws.{passes, refuses as attributes-refuse, eight-or-nine}
 use Rattle.memory.specs.Order.{memoryOf, attributesOf, checkOf}
 use Rattle.memory.specs.declared.Attributes.{Attributes}

@@ -5,19 +5,19 @@ use mathlib.Core.List.{List, [], _∷_}
 use Prim.Native.Nat.{ℕ, _%_}
 use lib.ListN.{getD}
 use Rattle.records.proofs.Cases.{each}
-use Rattle.records.specs.Setup.{controlOf, setupFrom}
-use Rattle.records.specs.declared.access.Level.{Level}
-use Rattle.records.specs.declared.access.Level.the-variants.{Privileged, Unprivileged}
+use Rattle.setups.specs.Setup.{controlOf, setupFrom}
+use Rattle.accesses.specs.declared.Level.{Level}
+use Rattle.accesses.specs.declared.Level.the-variants.{Privileged, Unprivileged}
 use Rattle.records.specs.declared.leaf.Leaf.{Leaf}
-use Rattle.records.specs.declared.setup.Words.{Words}
+use Rattle.records.specs.declared.words.Words.{Words}
 use Rattle.descriptors.specs.Bits.{bit}
 use Rattle.descriptors.specs.Descriptor.{stage1Of, stage2Of, limitsOf}
 use Rattle.checks.specs.Checks.{leafCheck}
 use Rattle.permissions.specs.declared.Mask.{Mask}
-use Rattle.stages.specs.Overlay.{three}
-use Rattle.stages.specs.declared.level.LevelAnswer.{LevelAnswer}
-use Rattle.stages.specs.declared.level.LevelAnswer.the-variants as level
-use Rattle.stages.specs.declared.level.LevelRights.{LevelRights}
+use Rattle.stages.specs.LevelRights.{three}
+use Rattle.stages.specs.declared.LevelAnswer.{LevelAnswer}
+use Rattle.stages.specs.declared.LevelAnswer.the-variants as level
+use Rattle.stages.specs.declared.LevelRights.{LevelRights}
 use Rattle.levels.proofs.Masks.{level-masks}
 use Rattle.levels.specs.Level as levels
 use Rattle.levels.proofs.Table.{with-table}

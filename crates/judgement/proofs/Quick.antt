@@ -11,15 +11,15 @@ use lib.Dec.{eqb, leb, ltb}
 use lib.ListN.{getD}
 use borrow.Author.Tests.{eqb-true, eq-eqb, leb-false}
 use Rattle.records.proofs.Cases.{at, each, each-digit}
-use Rattle.records.specs.declared.access.Level.{Level}
-use Rattle.records.specs.declared.access.Level.the-variants.{Privileged, Unprivileged}
-use Rattle.records.specs.Setup.{controlOf}
+use Rattle.accesses.specs.declared.Level.{Level}
+use Rattle.accesses.specs.declared.Level.the-variants.{Privileged, Unprivileged}
+use Rattle.setups.specs.Setup.{controlOf}
 use Rattle.records.specs.declared.leaf.Leaf.{Leaf}
-use Rattle.records.specs.declared.setup.Words.{Words}
+use Rattle.records.specs.declared.words.Words.{Words}
 use Rattle.checks.specs.Checks.{leafCheck}
-use Rattle.checks.specs.declared.answer.Answer.{Answer}
-use Rattle.checks.specs.declared.answer.Answer.the-variants as answer
-use Rattle.stages.specs.Overlay.{bitOf, registerOf}
+use Rattle.answers.specs.declared.Answer.{Answer}
+use Rattle.answers.specs.declared.Answer.the-variants as answer
+use Rattle.overlays.specs.Overlay.{bitOf, registerOf}
 use Rattle.descriptors.specs.Bits.{bit}
 use Rattle.descriptors.specs.Descriptor.{stage2Of, poIndex, placeOf, slotAt}
 use Rattle.permissions.specs.declared.Mask.{Mask}

@@ -7,12 +7,12 @@ use native.Mathlib.Omega.{arith}
 use types.Run.{OneOf}
 use denote.Enum.Declared.{tagOf}
 use Rattle.records.specs.Leaf.{readLeaf}
-use Rattle.records.specs.Setup.{readSetup}
+use Rattle.setups.specs.Setup.{readSetup}
 use Rattle.records.specs.declared.leaf.LeafRead.{LeafRead}
-use Rattle.records.specs.declared.setup.SetupRead.{SetupRead}
-use Rattle.checks.specs.declared.answer.Answer.{Answer}
-use Rattle.checks.specs.declared.answer.Answer.the-variants.{Permitted, Fault, Refused}
-use Rattle.checks.proofs.answer.Answer.{the-type}
+use Rattle.setups.specs.declared.SetupRead.{SetupRead}
+use Rattle.answers.specs.declared.Answer.{Answer}
+use Rattle.answers.specs.declared.Answer.the-variants.{Permitted, Fault, Refused}
+use Rattle.answers.proofs.Answer.{the-type}
 use Rattle.judgement.specs.Judge.{stopped, after, withSetup, judgeOf}
 use Rattle.judgement.specs.Pass.{afterCheck}
 use Rattle.judgement.specs.declared.Judgement.{Judgement}

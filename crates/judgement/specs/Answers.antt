@@ -1,8 +1,8 @@
 -- The paper's number and values for each case of an answer, 0 where the paper says 0 (document 01, 'Numbers for no', last paragraph, and
 -- 'What form each place needs'). The demands and the loader's interface use it. Assumes nothing.
 use Prim.Native.Nat.{ℕ}
-use Rattle.checks.specs.declared.answer.Kind.{Kind}
-use Rattle.checks.specs.declared.answer.Kind.the-variants.{Translation, AccessFlag, Permission, Overlay}
+use Rattle.answers.specs.declared.Kind.{Kind}
+use Rattle.answers.specs.declared.Kind.the-variants.{Translation, AccessFlag, Permission, Overlay}
 use Rattle.judgement.specs.declared.Judgement.{Judgement}
 use Rattle.judgement.specs.declared.Judgement.the-variants as judgement
 use Rattle.judgement.specs.declared.LeafRights.{LeafRights}

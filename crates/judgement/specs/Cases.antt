@@ -3,8 +3,8 @@
 use Prim.Native.Nat.{ℕ, zero, suc, _/_, _%_}
 use mathlib.Core.List.{List, [], _∷_, _++_}
 use lib.ListN.{replicate}
-use Rattle.checks.specs.declared.answer.Kind.{Kind}
-use Rattle.checks.specs.declared.answer.Kind.the-variants.{Translation, AccessFlag, Permission}
+use Rattle.answers.specs.declared.Kind.{Kind}
+use Rattle.answers.specs.declared.Kind.the-variants.{Translation, AccessFlag, Permission}
 use Rattle.judgement.specs.declared.Judgement.{Judgement}
 use Rattle.judgement.specs.declared.Judgement.the-variants.{Allowed, Fault}
 

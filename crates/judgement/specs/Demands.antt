@@ -6,20 +6,20 @@ use mathlib.Core.List.{List}
 use mathlib.Core.Logic.{_⊎_}
 use lib.Dec.{ltb}
 use lib.ListN.{length, getD, drop}
-use Rattle.records.specs.Access.{accessAt}
+use Rattle.accesses.specs.Access.{accessAt}
 use Rattle.descriptors.specs.Bits.{bit}
 use Rattle.descriptors.specs.Descriptor.{stage1Of, stage2Of, limitsOf}
 use Rattle.records.specs.Leaf.{readLeaf}
-use Rattle.records.specs.Setup.{readSetup}
+use Rattle.setups.specs.Setup.{readSetup}
 use Rattle.records.specs.declared.leaf.Leaf.{Leaf}
 use Rattle.records.specs.declared.leaf.LeafRead.the-variants as leaf
-use Rattle.records.specs.declared.setup.Setup.{Setup}
-use Rattle.records.specs.declared.setup.SetupRead.the-variants as setup
+use Rattle.setups.specs.declared.Setup.{Setup}
+use Rattle.setups.specs.declared.SetupRead.the-variants as setup
 use Rattle.stage1.specs.Stage1.{stage1Answer}
 use Rattle.stage2.specs.Stage2.{stage2Answer}
-use Rattle.checks.specs.declared.answer.Answer.{Answer}
-use Rattle.checks.specs.declared.answer.Answer.the-variants as answer
-use Rattle.checks.specs.declared.answer.Fault.{Fault}
+use Rattle.answers.specs.declared.Answer.{Answer}
+use Rattle.answers.specs.declared.Answer.the-variants as answer
+use Rattle.answers.specs.declared.Fault.{Fault}
 use Rattle.memory.specs.Order.{memoryOf}
 use Rattle.memory.specs.declared.Memory.{Memory}
 use Rattle.judgement.specs.Answers.{Values, judgementValues}

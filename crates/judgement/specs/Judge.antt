@@ -5,16 +5,16 @@ use mathlib.Core.Bool.{Bool, _||_}
 use lib.Dec.{eqb}
 use Rattle.descriptors.specs.Descriptor.{stage1Of, stage2Of}
 use Rattle.records.specs.Leaf.{readLeaf}
-use Rattle.records.specs.Setup.{readSetup}
+use Rattle.setups.specs.Setup.{readSetup}
 use Rattle.records.specs.declared.leaf.Leaf.{Leaf}
 use Rattle.records.specs.declared.leaf.LeafRead.{LeafRead}
 use Rattle.records.specs.declared.leaf.LeafRead.the-variants as leaf
-use Rattle.records.specs.declared.setup.Setup.{Setup}
-use Rattle.records.specs.declared.setup.SetupRead.{SetupRead}
-use Rattle.records.specs.declared.setup.SetupRead.the-variants as setup
+use Rattle.setups.specs.declared.Setup.{Setup}
+use Rattle.setups.specs.declared.SetupRead.{SetupRead}
+use Rattle.setups.specs.declared.SetupRead.the-variants as setup
 use Rattle.rights.specs.Order.{rightsAnswer}
-use Rattle.checks.specs.declared.answer.Answer.{Answer}
-use Rattle.checks.specs.declared.answer.Answer.the-variants as answer
+use Rattle.answers.specs.declared.Answer.{Answer}
+use Rattle.answers.specs.declared.Answer.the-variants as answer
 use Rattle.memory.specs.Order.{attributesOf}
 use Rattle.memory.specs.declared.Attributes.{Attributes}
 use Rattle.memory.specs.declared.Attributes.the-variants as attributes

@@ -7,14 +7,14 @@ use lib.Dec.{eqb, leb}
 use lib.ListN.{length, take, drop}
 use Rattle.records.specs.Leaf.{leafOf}
 use Rattle.records.specs.Bytes.{over}
-use Rattle.records.specs.Setup.{readSetup}
+use Rattle.setups.specs.Setup.{readSetup}
 use Rattle.records.specs.declared.leaf.Leaf.{Leaf}
-use Rattle.records.specs.declared.setup.Setup.{Setup}
-use Rattle.records.specs.declared.setup.SetupRead.{SetupRead}
-use Rattle.records.specs.declared.setup.SetupRead.the-variants as setup
+use Rattle.setups.specs.declared.Setup.{Setup}
+use Rattle.setups.specs.declared.SetupRead.{SetupRead}
+use Rattle.setups.specs.declared.SetupRead.the-variants as setup
 use Rattle.checks.specs.Checks.{setupCheck}
-use Rattle.checks.specs.declared.answer.Answer.{Answer}
-use Rattle.checks.specs.declared.answer.Answer.the-variants as answer
+use Rattle.answers.specs.declared.Answer.{Answer}
+use Rattle.answers.specs.declared.Answer.the-variants as answer
 use Rattle.judgement.specs.LeafRights.{leafRights}
 use Rattle.judgement.specs.declared.LeafRights.{LeafRights}
 use Rattle.judgement.specs.declared.LeafRights.the-variants as leaf

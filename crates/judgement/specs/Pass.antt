@@ -6,12 +6,12 @@ use mathlib.Core.List.{List}
 use lib.Dec.{eqb}
 use Rattle.descriptors.specs.Bits.{bit}
 use Rattle.descriptors.specs.Descriptor.{stage1Of, stage2Of, limitsOf, poIndex, slotAt}
-use Rattle.records.specs.Setup.{controlOf}
-use Rattle.records.specs.declared.access.Level.{Level}
-use Rattle.records.specs.declared.access.Level.the-variants.{Privileged, Unprivileged}
+use Rattle.setups.specs.Setup.{controlOf}
+use Rattle.accesses.specs.declared.Level.{Level}
+use Rattle.accesses.specs.declared.Level.the-variants.{Privileged, Unprivileged}
 use Rattle.records.specs.declared.leaf.Leaf.{Leaf}
-use Rattle.records.specs.declared.setup.Setup.{Setup}
-use Rattle.records.specs.declared.setup.Words.{Words}
+use Rattle.setups.specs.declared.Setup.{Setup}
+use Rattle.records.specs.declared.words.Words.{Words}
 use Rattle.permissions.specs.declared.Mask.{Mask}
 use Rattle.permissions.specs.declared.Mask.the-variants as mask
 use Rattle.checks.specs.Checks.{leafCheck}
@@ -19,13 +19,13 @@ use Rattle.levels.specs.Level.{levelsOf}
 use Rattle.levels.specs.Masks.{levelBits, stage2Mask, maskWith}
 use Rattle.levels.specs.Pass.{stage2Pass}
 use Rattle.levels.specs.Table.{stage1With}
-use Rattle.stages.specs.Overlay.{bitOf, registerOf}
-use Rattle.checks.specs.declared.answer.Answer.{Answer}
-use Rattle.checks.specs.declared.answer.Answer.the-variants as answer
+use Rattle.overlays.specs.Overlay.{bitOf, registerOf}
+use Rattle.answers.specs.declared.Answer.{Answer}
+use Rattle.answers.specs.declared.Answer.the-variants as answer
 use Rattle.levels.specs.declared.LeafLevels.{LeafLevels}
-use Rattle.stages.specs.declared.level.LevelAnswer.{LevelAnswer}
-use Rattle.stages.specs.declared.level.LevelAnswer.the-variants as level
-use Rattle.stages.specs.declared.level.LevelRights.{LevelRights}
+use Rattle.stages.specs.declared.LevelAnswer.{LevelAnswer}
+use Rattle.stages.specs.declared.LevelAnswer.the-variants as level
+use Rattle.stages.specs.declared.LevelRights.{LevelRights}
 use Rattle.memory.specs.Order.{checkOf}
 use Rattle.memory.specs.Step.{setupWith}
 use Rattle.memory.specs.declared.Check.{Check}

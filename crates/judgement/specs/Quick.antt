@@ -10,7 +10,7 @@ use lib.ListN.{getD}
 use Rattle.descriptors.specs.Bits.{bit, nibble}
 use Rattle.descriptors.specs.Descriptor.{stage2Of, poIndex, placeOf}
 use Rattle.records.specs.declared.leaf.Leaf.{Leaf}
-use Rattle.records.specs.declared.setup.Words.{Words}
+use Rattle.records.specs.declared.words.Words.{Words}
 use Rattle.permissions.specs.declared.Mask.{Mask}
 use Rattle.permissions.specs.declared.Mask.the-variants.{Granted, Refused}
 use Rattle.levels.specs.Masks.{stage2Mask, grants}

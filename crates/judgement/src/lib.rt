@@ -1,6 +1,6 @@
 // What a judgement, a leaf's rights and a list are (document 01, 'The order a judgement is made in'): the definitions, the demands 1 and 2 with
 // their theorems, and the types of the answers. Part of the judge. The functions are in `judge`, `leaves` and `lists`.
-use checks::answer::Fault;
+use answers::Fault;
 use memory::Memory;
 
 // The rights of a leaf as bits, or a refusal's number.

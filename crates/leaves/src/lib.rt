@@ -1,15 +1,15 @@
 // All rights of a leaf, in one pass, with the attribute steps once. Part of the judge. No public function has a `requires`.
 ghost use mathlib.Core.Path.{_≡_};
 ghost use Rattle.judgement.specs.Pass.{maskPart, Below, join, afterCheck, leafBy};
-use checks::answer::Answer;
+use accesses::Level;
+use answers::Answer;
 use descriptors::index::POIndex;
 use judgement::LeafRights;
 use memory::Check;
 use pass::level_mask;
 use permissions::Mask;
-use records::access::Level;
 use records::leaf::Leaf;
-use records::setup::Words;
+use records::words::Words;
 
 // The rights of a level as bits 0 to 2: the attribute steps are met where some right reaches them.
 fn mask_part(m: Mask, c: Check) -> LeafRights
@@ -64,7 +64,7 @@ fn check_refusal(a: Answer) -> LeafRights
 pub fn leaf_rights(q: Words, base: &[u16; 16], l: Leaf) -> LeafRights
     ensures { λ x. ⌜ x ≡ leafBy q (now (base .entry)) l ⌝ }
 {
-    let check = checks::checks::check_leaf(l);
+    let check = checks::check_leaf(l);
     let Answer::Permitted = check else {
         return check_refusal(check);
     };

@@ -7,39 +7,40 @@ use Prim.Native.Nat.{ℕ}
 use lib.Dec.{leb}
 use lib.ListN.{getD}
 use Rattle.records.proofs.Cases.{each}
-use Rattle.records.specs.Access.{accessOf}
+use Rattle.accesses.specs.Access.{accessOf}
 use Rattle.descriptors.specs.Bits.{bit}
 use Rattle.descriptors.specs.Descriptor.{slotAt}
-use Rattle.records.specs.declared.access.Level.{Level}
-use Rattle.records.specs.declared.access.Level.the-variants.{Privileged, Unprivileged}
-use Rattle.records.specs.declared.access.Right.{Right}
-use Rattle.records.specs.declared.access.Right.the-variants.{Read, Write, Execute}
+use Rattle.accesses.specs.declared.Level.{Level}
+use Rattle.accesses.specs.declared.Level.the-variants.{Privileged, Unprivileged}
+use Rattle.accesses.specs.declared.Right.{Right}
+use Rattle.accesses.specs.declared.Right.the-variants.{Read, Write, Execute}
 use Rattle.descriptors.specs.declared.Limits.{Limits}
 use Rattle.descriptors.specs.declared.Stage1.{Stage1}
 use Rattle.descriptors.specs.declared.Stage2.{Stage2}
-use Rattle.records.specs.declared.setup.LevelBits.{LevelBits}
-use Rattle.records.specs.declared.setup.Setup.{Setup}
+use Rattle.setups.specs.declared.LevelBits.{LevelBits}
+use Rattle.setups.specs.declared.Setup.{Setup}
 use Rattle.permissions.specs.Base.{baseOf}
 use Rattle.permissions.specs.declared.BaseAnswer.{BaseAnswer}
 use Rattle.permissions.specs.declared.BaseAnswer.the-variants as base
-use Rattle.checks.specs.Answers.{follow, faultOf, faultUnless, refuseIf, descriptorAnswer, permitted}
+use Rattle.answers.specs.Answers.{follow, faultOf, faultUnless, refuseIf, descriptorAnswer, permitted}
 use Rattle.levels.specs.Level.{collect, levelOf}
 use Rattle.stage1.specs.Stage1.{dirty, baseAnswer, stage1Answer}
 use Rattle.rights.specs.Order.{stagesAnswer}
-use Rattle.stages.specs.Overlay.{three, levelIn, hasRight, bitOf, registerOf, slotAnswer}
+use Rattle.stages.specs.LevelRights.{three, levelIn, hasRight}
+use Rattle.overlays.specs.Overlay.{bitOf, registerOf, slotAnswer}
 use Rattle.levels.specs.Pass.{everything, fromBase, stage1Pass, stage2Pass, none, any, both, overlaid, passLevel, passWith, pass}
 use Rattle.stage2.specs.Stage2.{stage2Rights, stage2Answer}
-use Rattle.checks.specs.declared.answer.Answer.{Answer}
-use Rattle.checks.specs.declared.answer.Answer.the-variants.{Permitted, Refused}
-use Rattle.checks.specs.declared.answer.Kind.{Kind}
-use Rattle.checks.specs.declared.answer.Kind.the-variants.{Translation, AccessFlag, Permission, Overlay}
+use Rattle.answers.specs.declared.Answer.{Answer}
+use Rattle.answers.specs.declared.Answer.the-variants.{Permitted, Refused}
+use Rattle.answers.specs.declared.Kind.{Kind}
+use Rattle.answers.specs.declared.Kind.the-variants.{Translation, AccessFlag, Permission, Overlay}
 use Rattle.levels.specs.declared.Stage1Pass.{Stage1Pass}
 use Rattle.levels.specs.declared.Stage1Pass.the-variants as one
 use Rattle.levels.specs.declared.Stage2Pass.{Stage2Pass}
 use Rattle.levels.specs.declared.Stage2Pass.the-variants as two
-use Rattle.stages.specs.declared.level.LevelAnswer.{LevelAnswer}
-use Rattle.stages.specs.declared.level.LevelAnswer.the-variants as level
-use Rattle.stages.specs.declared.level.LevelRights.{LevelRights}
+use Rattle.stages.specs.declared.LevelAnswer.{LevelAnswer}
+use Rattle.stages.specs.declared.LevelAnswer.the-variants as level
+use Rattle.stages.specs.declared.LevelRights.{LevelRights}
 
 -- the fault that a descriptor gives every access, by its valid bit
 abbrev firstFault : ℕ → Bool → Answer

@@ -5,24 +5,24 @@ use mathlib.Core.Path.{_≡_, ap}
 use mathlib.Core.Bool.{false}
 use Prim.Native.Nat.{ℕ}
 use native.Mathlib.Omega.{arith}
-use Rattle.records.specs.Access.{accessOf}
-use Rattle.records.specs.declared.access.Level.{Level}
-use Rattle.records.specs.declared.access.Right.{Right}
-use Rattle.records.specs.declared.access.Right.the-variants.{Read, Write, Execute}
+use Rattle.accesses.specs.Access.{accessOf}
+use Rattle.accesses.specs.declared.Level.{Level}
+use Rattle.accesses.specs.declared.Right.{Right}
+use Rattle.accesses.specs.declared.Right.the-variants.{Read, Write, Execute}
 use Rattle.descriptors.specs.declared.Limits.{Limits}
 use Rattle.descriptors.specs.declared.Stage1.{Stage1}
 use Rattle.descriptors.specs.declared.Stage2.{Stage2}
-use Rattle.records.specs.declared.setup.Setup.{Setup}
+use Rattle.setups.specs.declared.Setup.{Setup}
 use Rattle.levels.proofs.Agree.{none-left}
-use Rattle.checks.specs.Answers.{permitted}
+use Rattle.answers.specs.Answers.{permitted}
 use Rattle.levels.specs.Level.{unlessRefused, collect, levelOf}
 use Rattle.rights.specs.Order.{stagesAnswer}
-use Rattle.stages.specs.Overlay.{three, hasRight}
-use Rattle.checks.specs.declared.answer.Answer.{Answer}
-use Rattle.checks.specs.declared.answer.Answer.the-variants as answer
-use Rattle.stages.specs.declared.level.LevelAnswer.{LevelAnswer}
-use Rattle.stages.specs.declared.level.LevelAnswer.the-variants.{Rights, Refused}
-use Rattle.stages.specs.declared.level.LevelRights.{LevelRights}
+use Rattle.stages.specs.LevelRights.{three, hasRight}
+use Rattle.answers.specs.declared.Answer.{Answer}
+use Rattle.answers.specs.declared.Answer.the-variants as answer
+use Rattle.stages.specs.declared.LevelAnswer.{LevelAnswer}
+use Rattle.stages.specs.declared.LevelAnswer.the-variants.{Rights, Refused}
+use Rattle.stages.specs.declared.LevelRights.{LevelRights}
 
 -- rights come from what follows an access that is not refused
 rest : (a : Answer) (k : LevelAnswer) (r : LevelRights) → unlessRefused a k ≡ Rights r → k ≡ Rights r

@@ -12,15 +12,15 @@ use borrow.Author.Tests.{ltb-true}
 use Rattle.records.proofs.Cases.{tree, digitTree, at, each, each-digit}
 use Rattle.descriptors.specs.Bits.{bit}
 use Rattle.descriptors.specs.Descriptor.{stage1Of, stage2Of, limitsOf, poIndex, placeOf, slotAt}
-use Rattle.records.specs.declared.access.Level.{Level}
-use Rattle.records.specs.declared.access.Level.the-variants.{Privileged, Unprivileged}
+use Rattle.accesses.specs.declared.Level.{Level}
+use Rattle.accesses.specs.declared.Level.the-variants.{Privileged, Unprivileged}
 use Rattle.descriptors.specs.declared.Limits.{Limits}
 use Rattle.descriptors.specs.declared.Stage1.{Stage1}
 use Rattle.descriptors.specs.declared.Stage2.{Stage2}
-use Rattle.records.specs.declared.setup.LevelBits.{LevelBits}
-use Rattle.records.specs.Setup.{controlOf, setupFrom}
-use Rattle.records.specs.declared.setup.Setup.{Setup}
-use Rattle.records.specs.declared.setup.Words.{Words}
+use Rattle.setups.specs.declared.LevelBits.{LevelBits}
+use Rattle.setups.specs.Setup.{controlOf, setupFrom}
+use Rattle.setups.specs.declared.Setup.{Setup}
+use Rattle.records.specs.declared.words.Words.{Words}
 use Rattle.permissions.specs.Base.{directBase, baseOf}
 use Rattle.permissions.specs.Direct.{six, directOf}
 use Rattle.permissions.specs.Indirect.{indirectOf}
@@ -32,7 +32,8 @@ use Rattle.permissions.specs.declared.BaseAnswer.the-variants as base
 use Rattle.permissions.specs.declared.Mask.{Mask}
 use Rattle.permissions.specs.declared.Mask.the-variants.{Granted, Refused}
 use Rattle.permissions.specs.declared.Rights.{Rights}
-use Rattle.stages.specs.Overlay.{three, levelIn, bitOf, registerOf, slotRights}
+use Rattle.stages.specs.LevelRights.{three, levelIn}
+use Rattle.overlays.specs.Overlay.{bitOf, registerOf, slotRights}
 use Rattle.levels.specs.Masks.{levelBits, levelMask, setupWith, stage1Mask, stage2Mask, bitsIn, appliesIn, slotTable, stage2Table, stage2Left, slotLeft, maskWith, rangeMask, rangeWith}
 use Rattle.stage2.specs.Stage2.{xnPx, xnUx, stage2Rights}
 use Rattle.levels.proofs.Agree.{agree}
@@ -44,9 +45,9 @@ use Rattle.levels.specs.declared.Stage1Pass.{Stage1Pass}
 use Rattle.levels.specs.declared.Stage1Pass.the-variants as stage1
 use Rattle.levels.specs.declared.Stage2Pass.{Stage2Pass}
 use Rattle.levels.specs.declared.Stage2Pass.the-variants as stage2
-use Rattle.stages.specs.declared.level.LevelAnswer.{LevelAnswer}
-use Rattle.stages.specs.declared.level.LevelAnswer.the-variants as level
-use Rattle.stages.specs.declared.level.LevelRights.{LevelRights}
+use Rattle.stages.specs.declared.LevelAnswer.{LevelAnswer}
+use Rattle.stages.specs.declared.LevelAnswer.the-variants as level
+use Rattle.stages.specs.declared.LevelRights.{LevelRights}
 
 abbrev pick : List Bool → ℕ → Bool
 pick m k = getD m k false

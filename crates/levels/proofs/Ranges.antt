@@ -11,18 +11,19 @@ use borrow.Author.Tests.{lt-leb}
 use Rattle.records.proofs.Cases.{at, each}
 use Rattle.descriptors.specs.Bits.{nibble}
 use Rattle.descriptors.specs.Descriptor.{placeOf, slotAt}
-use Rattle.records.specs.declared.access.Level.{Level}
-use Rattle.records.specs.declared.access.Level.the-variants.{Privileged, Unprivileged}
+use Rattle.accesses.specs.declared.Level.{Level}
+use Rattle.accesses.specs.declared.Level.the-variants.{Privileged, Unprivileged}
 use Rattle.descriptors.specs.declared.index.POIndex.{POIndex}
 use Rattle.descriptors.specs.declared.Limits.{Limits}
 use Rattle.descriptors.specs.declared.Stage1.{Stage1}
 use Rattle.descriptors.specs.declared.Stage2.{Stage2}
-use Rattle.records.specs.declared.setup.LevelBits.{LevelBits}
-use Rattle.records.specs.declared.setup.Setup.{Setup}
+use Rattle.setups.specs.declared.LevelBits.{LevelBits}
+use Rattle.setups.specs.declared.Setup.{Setup}
 use Rattle.permissions.specs.Base.{baseOf}
 use Rattle.levels.proofs.Agree.{agree}
 use Rattle.levels.specs.Level.{levelOf, rangeFrom, rangeOf, between}
-use Rattle.stages.specs.Overlay.{three, levelIn, bitOf, registerOf, slotRights}
+use Rattle.stages.specs.LevelRights.{three, levelIn}
+use Rattle.overlays.specs.Overlay.{bitOf, registerOf, slotRights}
 use Rattle.levels.specs.Pass.{stage1Pass, stage2Pass, none, any, both, overlaid, passLevel, passWith}
 use Rattle.levels.specs.Register.{put, allOpen}
 use Rattle.levels.specs.declared.Stage1Pass.{Stage1Pass}
@@ -30,9 +31,9 @@ use Rattle.levels.specs.declared.Stage1Pass.the-variants as one
 use Rattle.levels.specs.declared.Stage2Pass.{Stage2Pass}
 use Rattle.levels.specs.declared.Stage2Pass.the-variants as two
 use Rattle.levels.specs.declared.LevelRange.the-variants as range
-use Rattle.stages.specs.declared.level.LevelAnswer.{LevelAnswer}
-use Rattle.stages.specs.declared.level.LevelAnswer.the-variants.{Rights, Refused}
-use Rattle.stages.specs.declared.level.LevelRights.{LevelRights}
+use Rattle.stages.specs.declared.LevelAnswer.{LevelAnswer}
+use Rattle.stages.specs.declared.LevelAnswer.the-variants.{Rights, Refused}
+use Rattle.stages.specs.declared.LevelRights.{LevelRights}
 
 -- the register put in place is the level's
 placed : (s : Setup) (l : Level) (r : ℕ) → registerOf (put s l r .por) l ≡ r

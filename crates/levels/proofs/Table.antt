@@ -12,9 +12,9 @@ use borrow.Author.Tests.{lt-ltb, ltb-true}
 use Rattle.descriptors.specs.Bits.{bit, nibble}
 use Rattle.descriptors.specs.Descriptor.{stage1Of, stage2Of, limitsOf, piIndex, codePlace, poIndex, placeOf}
 use Rattle.records.proofs.Cases.{at}
-use Rattle.records.specs.Setup.{controlOf, setupFrom}
-use Rattle.records.specs.declared.access.Level.{Level}
-use Rattle.records.specs.declared.setup.Words.{Words}
+use Rattle.setups.specs.Setup.{controlOf, setupFrom}
+use Rattle.accesses.specs.declared.Level.{Level}
+use Rattle.records.specs.declared.words.Words.{Words}
 use Rattle.permissions.proofs.Masks.{direct-left}
 use Rattle.permissions.specs.Base.{baseOf}
 use Rattle.permissions.specs.Direct.{directOf}
@@ -25,7 +25,7 @@ use Rattle.permissions.specs.declared.Code.{Code}
 use Rattle.permissions.specs.declared.Mask.{Mask}
 use Rattle.permissions.specs.declared.Mask.the-variants.{Granted, Refused}
 use Rattle.permissions.specs.declared.Rights.{Rights}
-use Rattle.stages.specs.Overlay.{bitOf}
+use Rattle.overlays.specs.Overlay.{bitOf}
 use Rattle.levels.specs.Level.{rangeOf}
 use Rattle.levels.specs.Masks.{setupWith, stage1Mask, stage2Mask, rangeMask}
 use Rattle.levels.specs.Pass.{stage1Pass, stage2Pass}

@@ -2,27 +2,28 @@
 -- planner asks of a level. Assumes nothing.
 use Prim.Native.Nat.{ℕ}
 use mathlib.Core.Bool.{_&&_, _||_}
-use Rattle.records.specs.Access.{accessOf}
+use Rattle.accesses.specs.Access.{accessOf}
 use Rattle.descriptors.specs.Descriptor.{placeOf}
-use Rattle.records.specs.declared.access.Level.{Level}
-use Rattle.records.specs.declared.access.Level.the-variants.{Privileged, Unprivileged}
-use Rattle.records.specs.declared.access.Right.the-variants.{Read, Write, Execute}
+use Rattle.accesses.specs.declared.Level.{Level}
+use Rattle.accesses.specs.declared.Level.the-variants.{Privileged, Unprivileged}
+use Rattle.accesses.specs.declared.Right.the-variants.{Read, Write, Execute}
 use Rattle.descriptors.specs.declared.Limits.{Limits}
 use Rattle.descriptors.specs.declared.Stage1.{Stage1}
 use Rattle.descriptors.specs.declared.Stage2.{Stage2}
-use Rattle.records.specs.declared.setup.Setup.{Setup}
-use Rattle.checks.specs.Answers.{permitted}
+use Rattle.setups.specs.declared.Setup.{Setup}
+use Rattle.answers.specs.Answers.{permitted}
 use Rattle.rights.specs.Order.{stagesAnswer}
-use Rattle.stages.specs.Overlay.{three, slotRights}
+use Rattle.stages.specs.LevelRights.{three}
+use Rattle.overlays.specs.Overlay.{slotRights}
 use Rattle.levels.specs.Register.{put, allOpen}
-use Rattle.checks.specs.declared.answer.Answer.{Answer}
-use Rattle.checks.specs.declared.answer.Answer.the-variants as answer
+use Rattle.answers.specs.declared.Answer.{Answer}
+use Rattle.answers.specs.declared.Answer.the-variants as answer
 use Rattle.levels.specs.declared.LeafLevels.{LeafLevels}
 use Rattle.levels.specs.declared.LevelRange.{LevelRange}
 use Rattle.levels.specs.declared.LevelRange.the-variants as range
-use Rattle.stages.specs.declared.level.LevelAnswer.{LevelAnswer}
-use Rattle.stages.specs.declared.level.LevelAnswer.the-variants.{Rights, Refused}
-use Rattle.stages.specs.declared.level.LevelRights.{LevelRights}
+use Rattle.stages.specs.declared.LevelAnswer.{LevelAnswer}
+use Rattle.stages.specs.declared.LevelAnswer.the-variants.{Rights, Refused}
+use Rattle.stages.specs.declared.LevelRights.{LevelRights}
 
 -- a refusal refuses the level, whatever the later accesses give
 abbrev pub unlessRefused : Answer → LevelAnswer → LevelAnswer

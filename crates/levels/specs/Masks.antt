@@ -7,10 +7,10 @@ use lib.Bits.{bitAnd}
 use lib.Dec.{eqb, leb}
 use lib.ListN.{getD}
 use Rattle.descriptors.specs.Bits.{bit}
-use Rattle.records.specs.declared.access.Level.{Level}
-use Rattle.records.specs.declared.access.Level.the-variants.{Privileged, Unprivileged}
-use Rattle.records.specs.Setup.{controlOf}
-use Rattle.records.specs.declared.setup.Setup.{Setup}
+use Rattle.accesses.specs.declared.Level.{Level}
+use Rattle.accesses.specs.declared.Level.the-variants.{Privileged, Unprivileged}
+use Rattle.setups.specs.Setup.{controlOf}
+use Rattle.setups.specs.declared.Setup.{Setup}
 use Rattle.permissions.specs.Masks.{threeMask, sixMask, baseMask}
 use Rattle.permissions.specs.declared.BaseAnswer.the-variants as base
 use Rattle.permissions.specs.declared.Mask.{Mask}
@@ -23,9 +23,9 @@ use Rattle.levels.specs.declared.Stage1Pass.{Stage1Pass}
 use Rattle.levels.specs.declared.Stage1Pass.the-variants as one
 use Rattle.levels.specs.declared.Stage2Pass.{Stage2Pass}
 use Rattle.levels.specs.declared.Stage2Pass.the-variants as two
-use Rattle.stages.specs.declared.level.LevelAnswer.{LevelAnswer}
-use Rattle.stages.specs.declared.level.LevelAnswer.the-variants as level
-use Rattle.stages.specs.declared.level.LevelRights.{LevelRights}
+use Rattle.stages.specs.declared.LevelAnswer.{LevelAnswer}
+use Rattle.stages.specs.declared.LevelAnswer.the-variants as level
+use Rattle.stages.specs.declared.LevelRights.{LevelRights}
 
 -- rights of a level as bits 0 to 2: read, write, execute
 abbrev pub levelBits : LevelRights → ℕ

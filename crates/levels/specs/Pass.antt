@@ -4,12 +4,12 @@ use Prim.Native.Nat.{ℕ}
 use mathlib.Core.Bool.{Bool, true, false, cond, not, _&&_, _||_}
 use lib.Dec.{leb}
 use Rattle.descriptors.specs.Descriptor.{slotAt}
-use Rattle.records.specs.declared.access.Level.{Level}
+use Rattle.accesses.specs.declared.Level.{Level}
 use Rattle.descriptors.specs.declared.Limits.{Limits}
 use Rattle.descriptors.specs.declared.Stage1.{Stage1}
 use Rattle.descriptors.specs.declared.Stage2.{Stage2}
-use Rattle.records.specs.declared.setup.LevelBits.{LevelBits}
-use Rattle.records.specs.declared.setup.Setup.{Setup}
+use Rattle.setups.specs.declared.LevelBits.{LevelBits}
+use Rattle.setups.specs.declared.Setup.{Setup}
 use Rattle.permissions.specs.Base.{baseOf}
 use Rattle.permissions.specs.Direct.{six}
 use Rattle.permissions.specs.declared.Base.{Base}
@@ -17,15 +17,16 @@ use Rattle.permissions.specs.declared.BaseAnswer.{BaseAnswer}
 use Rattle.permissions.specs.declared.BaseAnswer.the-variants as base
 use Rattle.permissions.specs.declared.Rights.{Rights as SixRights}
 use Rattle.stage1.specs.Stage1.{dirty}
-use Rattle.stages.specs.Overlay.{three, levelIn, bitOf, registerOf, slotRights}
+use Rattle.stages.specs.LevelRights.{three, levelIn}
+use Rattle.overlays.specs.Overlay.{bitOf, registerOf, slotRights}
 use Rattle.stage2.specs.Stage2.{stage2Rights}
 use Rattle.levels.specs.declared.Stage1Pass.{Stage1Pass}
 use Rattle.levels.specs.declared.Stage1Pass.the-variants as one
 use Rattle.levels.specs.declared.Stage2Pass.{Stage2Pass}
 use Rattle.levels.specs.declared.Stage2Pass.the-variants as two
-use Rattle.stages.specs.declared.level.LevelAnswer.{LevelAnswer}
-use Rattle.stages.specs.declared.level.LevelAnswer.the-variants.{Rights, Refused}
-use Rattle.stages.specs.declared.level.LevelRights.{LevelRights}
+use Rattle.stages.specs.declared.LevelAnswer.{LevelAnswer}
+use Rattle.stages.specs.declared.LevelAnswer.the-variants.{Rights, Refused}
+use Rattle.stages.specs.declared.LevelRights.{LevelRights}
 
 -- all six rights
 abbrev pub everything : SixRights

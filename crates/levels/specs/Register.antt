@@ -1,9 +1,9 @@
 -- Document 01, 'The planner': a register put in place of a level's POR. Assumes nothing.
 use Prim.Native.Nat.{ℕ}
-use Rattle.records.specs.declared.access.Level.{Level}
-use Rattle.records.specs.declared.access.Level.the-variants.{Privileged, Unprivileged}
-use Rattle.records.specs.declared.setup.LevelRegisters.{LevelRegisters}
-use Rattle.records.specs.declared.setup.Setup.{Setup}
+use Rattle.accesses.specs.declared.Level.{Level}
+use Rattle.accesses.specs.declared.Level.the-variants.{Privileged, Unprivileged}
+use Rattle.records.specs.declared.words.LevelRegisters.{LevelRegisters}
+use Rattle.setups.specs.declared.Setup.{Setup}
 
 -- a register in a level's place
 abbrev pub replace : LevelRegisters → Level → ℕ → LevelRegisters

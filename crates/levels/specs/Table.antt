@@ -9,14 +9,14 @@ use lib.Dec.{ltb}
 use lib.ListN.{getD}
 use Rattle.descriptors.specs.Bits.{bit, nibble}
 use Rattle.descriptors.specs.Descriptor.{stage2Of, piIndex, entryOf, poIndex, placeOf}
-use Rattle.records.specs.Setup.{controlOf}
-use Rattle.records.specs.declared.access.Level.{Level}
-use Rattle.records.specs.declared.setup.Words.{Words}
+use Rattle.setups.specs.Setup.{controlOf}
+use Rattle.accesses.specs.declared.Level.{Level}
+use Rattle.records.specs.declared.words.Words.{Words}
 use Rattle.permissions.specs.Indirect.{codeOf, indirectStep}
 use Rattle.permissions.specs.Masks.{baseMask, descriptorLeft, limitsLeft, descriptorPlace, removed}
 use Rattle.permissions.specs.declared.Mask.{Mask}
 use Rattle.permissions.specs.declared.Mask.the-variants.{Granted, Refused}
-use Rattle.stages.specs.Overlay.{bitOf}
+use Rattle.overlays.specs.Overlay.{bitOf}
 use Rattle.levels.specs.Masks.{stage2Mask, maskWith, rangeWith}
 use Rattle.levels.specs.Pass.{stage2Pass}
 use Rattle.levels.specs.declared.RangeMask.{RangeMask}

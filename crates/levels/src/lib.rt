@@ -2,8 +2,8 @@
 // laws between them and the answers of single accesses. Part of the rights layer. The functions are in `base_table`, `pass` and `range`.
 use permissions::Base;
 use permissions::Rights;
-use stages::level::LevelAnswer;
-use stages::level::LevelRights;
+use stages::LevelAnswer;
+use stages::LevelRights;
 
 // The rights of both levels of a leaf.
 pub struct LeafLevels {

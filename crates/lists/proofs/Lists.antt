@@ -8,13 +8,13 @@ use lib.ListN.{length}
 use borrow.Author.Tests.{eq-eqb, ne-eqb, le-leb, lt-leb}
 use types.Run.{OneOf}
 use denote.Enum.Declared.{tagOf}
-use Rattle.records.specs.Setup.{readSetup}
-use Rattle.records.specs.declared.setup.Setup.{Setup}
-use Rattle.records.specs.declared.setup.SetupRead.{SetupRead}
+use Rattle.setups.specs.Setup.{readSetup}
+use Rattle.setups.specs.declared.Setup.{Setup}
+use Rattle.setups.specs.declared.SetupRead.{SetupRead}
 use Rattle.checks.specs.Checks.{setupCheck}
-use Rattle.checks.specs.declared.answer.Answer.{Answer}
-use Rattle.checks.specs.declared.answer.Answer.the-variants as answer
-use Rattle.checks.proofs.answer.Answer.{the-type}
+use Rattle.answers.specs.declared.Answer.{Answer}
+use Rattle.answers.specs.declared.Answer.the-variants as answer
+use Rattle.answers.proofs.Answer.{the-type}
 use Rattle.judgement.proofs.Agree.{agree}
 use Rattle.judgement.proofs.Demands.{list-met}
 use Rattle.lists.proofs.Walks.{same-walk}

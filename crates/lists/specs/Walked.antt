@@ -2,8 +2,8 @@
 use Prim.Native.Nat.{ℕ}
 use mathlib.Core.List.{List}
 use lib.ListN.{take}
-use Rattle.records.specs.declared.setup.Setup.{Setup}
-use Rattle.records.specs.declared.setup.Words.{Words}
+use Rattle.setups.specs.declared.Setup.{Setup}
+use Rattle.records.specs.declared.words.Words.{Words}
 use Rattle.levels.specs.Table.{BaseTable}
 use Rattle.memory.specs.Table.{AttributeTable}
 use Rattle.judgement.specs.List.{Walk, bytes, refused, leafAt}

@@ -3,20 +3,20 @@
 ghost use mathlib.Core.Path.{_≡_};
 ghost use Prim.Native.Nat.{_+_, _*_, _≤_};
 ghost use lib.ListN.{length};
-ghost use Rattle.records.specs.Setup.{setupFrom};
+ghost use Rattle.setups.specs.Setup.{setupFrom};
 ghost use Rattle.judgement.specs.Demands.{ListDemands};
 ghost use Rattle.judgement.specs.List.{walk, numberOf, listOf};
 ghost use Rattle.lists.specs.Walked.{Tables, passAt, walkIn, refusedOf};
+use answers::Answer;
 use attribute_table::attribute_table;
 use base_table::base_table;
-use checks::answer::Answer;
 use judgement::LeafRights;
 use judgement::Listed;
 use leaves::leaf_rights;
 use quick::quick_rights;
 use records::leaf::LeafRead;
-use records::setup::Words;
-use records::setup::WordsRead;
+use records::words::Words;
+use records::words::WordsRead;
 use slot_table::slot_table;
 
 // Every leaf was judged, or the first refusal with its leaf's index.
@@ -103,13 +103,13 @@ pub fn list_rights(setup: &[u8], leaves: &[u8], out: &mut [u8]) -> Listed
     ensures out { λ r. ⌜ now (out .exit) ≡ listOf (now (setup .entry)) (now (leaves .entry)) (now (out .entry)) .out ⌝ }
     ensures demands { λ r. ⌜ ListDemands (now (setup .entry)) (now (leaves .entry)) (now (out .entry)) r (now (out .exit)) ⌝ }
 {
-    let WordsRead::Read(q) = records::setup::read_words(setup) else {
+    let WordsRead::Read(q) = records::words::read_words(setup) else {
         return Listed::Refused {
             number: 13,
             leaf: 0,
         };
     };
-    let check = checks::checks::check_setup(records::setup::read_control(q.control));
+    let check = checks::check_setup(setups::read_control(q.control));
     let Answer::Permitted = check else {
         return Listed::Refused {
             number: number_of(check),

@@ -12,9 +12,9 @@ use Rattle.memory.specs.Shareability.{reservedSH, stage1SH, stage2SH, co
 use Rattle.memory.specs.Order.{attributesOf, memoryOf}
 use Rattle.memory.specs.declared.Attributes.{Attributes}
 use Rattle.memory.specs.declared.Attributes.the-variants.{Combined, Refused}
-use Rattle.records.specs.Setup.{controlOf}
+use Rattle.setups.specs.Setup.{controlOf}
 use Rattle.descriptors.specs.Descriptor.{stage1Of, stage2Of}
-use Rattle.records.specs.declared.setup.Setup.{Setup}
+use Rattle.setups.specs.declared.Setup.{Setup}
 
 -- the setup of these cases with a control word; MAIR2 is F0AA00
 abbrev setup : ℕ → Setup

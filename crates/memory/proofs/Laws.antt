@@ -15,7 +15,7 @@ use Rattle.memory.specs.declared.Check.the-variants as check
 use Rattle.memory.specs.declared.Memory.{Memory}
 use Rattle.descriptors.specs.declared.Stage1.{Stage1}
 use Rattle.descriptors.specs.declared.Stage2.{Stage2}
-use Rattle.records.specs.declared.setup.Setup.{Setup}
+use Rattle.setups.specs.declared.Setup.{Setup}
 
 pub checks : (s : Setup) (one : Stage1) (two : Stage2) (fetch : Bool) → checkOf s one two ≡ checkIn (attributesOf s one two fetch)
 unfolding checkOf attributesOf

@@ -22,7 +22,7 @@ use Rattle.memory.proofs.Stages.{byte-on, reserved-byte-on, sh-on, rese
 use Rattle.memory.proofs.SourceTables.{Typed, refused, typed, typedIn, answerIn}
 use Rattle.descriptors.specs.declared.Stage1.{Stage1}
 use Rattle.descriptors.specs.declared.Stage2.{Stage2}
-use Rattle.records.specs.declared.setup.Setup.{Setup}
+use Rattle.setups.specs.declared.Setup.{Setup}
 
 -- what the definitions say of a byte and MemAttr
 unfoldable typedOf : Bool → ℕ → ℕ → Typed

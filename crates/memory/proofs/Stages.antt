@@ -9,7 +9,7 @@ use Rattle.memory.specs.Combine.{combine, resultOf}
 use Rattle.memory.specs.Shareability.{uncached, counted, stronger, reservedSH, stage1SH, stage2SH, combinedSH}
 use Rattle.descriptors.specs.declared.Stage1.{Stage1}
 use Rattle.descriptors.specs.declared.Stage2.{Stage2}
-use Rattle.records.specs.declared.setup.Setup.{Setup}
+use Rattle.setups.specs.declared.Setup.{Setup}
 
 -- stage 1 on
 module _ (s : Setup) (one : Stage1) (e : s .control .stage1 ≡ true) where

@@ -9,7 +9,7 @@ use lib.Dec.{eqb, leb}
 use lib.ListN.{getD}
 use borrow.Author.Tests.{le-leb, lt-leb}
 use Rattle.records.proofs.Cases.{at}
-use Rattle.records.specs.Setup.{controlOf}
+use Rattle.setups.specs.Setup.{controlOf}
 use Rattle.descriptors.specs.Bits.{bit, field}
 use Rattle.descriptors.specs.Descriptor.{stage1Of, stage2Of}
 use Rattle.memory.proofs.Laws.{check-is}

@@ -7,7 +7,7 @@ use Rattle.memory.specs.Mair.{outer, inner, nibbles, device, isDevice, n
 use Rattle.memory.specs.StageTwoType.{memAttrOf, deviceCode, outerClass, innerClass}
 use Rattle.descriptors.specs.declared.Stage1.{Stage1}
 use Rattle.descriptors.specs.declared.Stage2.{Stage2}
-use Rattle.records.specs.declared.setup.Setup.{Setup}
+use Rattle.setups.specs.declared.Setup.{Setup}
 
 -- any Device wins, and two Devices give the stricter (earlier): stage 1's byte b with stage 2's Device n
 abbrev pub withDevice : ℕ → ℕ → ℕ

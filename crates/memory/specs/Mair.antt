@@ -5,7 +5,7 @@ use mathlib.Core.Bool.{Bool, cond, not, _&&_, _||_}
 use lib.Dec.{eqb, ltb}
 use Rattle.descriptors.specs.Bits.{bit, field}
 use Rattle.descriptors.specs.declared.Stage1.{Stage1}
-use Rattle.records.specs.declared.setup.Setup.{Setup}
+use Rattle.setups.specs.declared.Setup.{Setup}
 
 -- a byte's outer nibble is high, its inner nibble low
 abbrev pub outer : ℕ → ℕ

@@ -12,7 +12,7 @@ use Rattle.memory.specs.declared.Check.the-variants as check
 use Rattle.memory.specs.declared.Memory.{Memory}
 use Rattle.descriptors.specs.declared.Stage1.{Stage1}
 use Rattle.descriptors.specs.declared.Stage2.{Stage2}
-use Rattle.records.specs.declared.setup.Setup.{Setup}
+use Rattle.setups.specs.declared.Setup.{Setup}
 
 -- the byte and SH of an access that none of the steps refuses; an allowed fetch reports the type as it stands, Device included
 unfoldable pub memoryOf : Setup → Stage1 → Stage2 → Bool → Memory

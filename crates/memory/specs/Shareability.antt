@@ -7,7 +7,7 @@ use Rattle.memory.specs.StageTwoType.{memAttrOf, uncachedCode}
 use Rattle.memory.specs.Combine.{resultByte}
 use Rattle.descriptors.specs.declared.Stage1.{Stage1}
 use Rattle.descriptors.specs.declared.Stage2.{Stage2}
-use Rattle.records.specs.declared.setup.Setup.{Setup}
+use Rattle.setups.specs.declared.Setup.{Setup}
 
 -- refusal 9: SH is 01 in a stage that is on, whatever its memory type
 unfoldable pub reservedSH : Setup → Stage1 → Stage2 → Bool

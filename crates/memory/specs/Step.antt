@@ -1,8 +1,8 @@
 -- What the functions of an attribute step take and answer: private to the layer. Assumes nothing.
 use Prim.Native.Nat.{ℕ}
 use mathlib.Core.Bool.{Bool, cond}
-use Rattle.records.specs.Setup.{controlOf}
-use Rattle.records.specs.declared.setup.Setup.{Setup}
+use Rattle.setups.specs.Setup.{controlOf}
+use Rattle.setups.specs.declared.Setup.{Setup}
 use Rattle.memory.specs.declared.step.Reached.{Reached}
 use Rattle.memory.specs.declared.step.Reached.the-variants.{Code, Reserved}
 

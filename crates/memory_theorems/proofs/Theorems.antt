@@ -20,7 +20,7 @@ use Rattle.memory.proofs.Codes.{at-codes}
 use Rattle.memory.proofs.Stages.{byte-on, byte-off, reserved-byte-on, sh-on, reserved-code-on, result-on, result-off, combined-on, combined-off}
 use Rattle.descriptors.specs.declared.Stage1.{Stage1}
 use Rattle.descriptors.specs.declared.Stage2.{Stage2}
-use Rattle.records.specs.declared.setup.Setup.{Setup}
+use Rattle.setups.specs.declared.Setup.{Setup}
 
 -- t wherever a and b hold
 abbrev where2 : Bool → Bool → Bool → Bool

@@ -6,8 +6,8 @@ ghost use Rattle.descriptors.specs.Bits.{bit};
 ghost use Rattle.descriptors.specs.Descriptor.{stage2Of};
 ghost use Rattle.levels.specs.Masks.{stage2Mask, bitsIn, appliesIn, grants, stage2Left, slotLeft, maskWith};
 ghost use Rattle.levels.specs.Pass.{stage2Pass};
+use accesses::Level;
 use permissions::Mask;
-use records::access::Level;
 
 // Stage 2's rights by S2AP and XN.
 const STAGE2: [u8; 16] = [36, 45, 54, 63, 32, 41, 50, 59, 0, 9, 18, 27, 4, 13, 22, 31];

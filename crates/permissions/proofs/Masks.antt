@@ -12,7 +12,7 @@ use lib.ListN.{length, getD}
 use Rattle.records.proofs.Cases.{upto, at, each, digits, each-digit}
 use Rattle.descriptors.specs.Bits.{bit}
 use Rattle.descriptors.specs.Descriptor.{stage1Of, limitsOf}
-use Rattle.records.specs.Setup.{controlOf}
+use Rattle.setups.specs.Setup.{controlOf}
 use Rattle.permissions.specs.Direct as direct
 use Rattle.permissions.specs.Indirect.{meanings, fields, reserved, codeOf, indirectStep}
 use Rattle.permissions.specs.Masks.{sixMask, baseMask, keep, descriptorTable, limitsTable, levelPlace, descriptorLeft, limitsLeft, descriptorPlace, removed, codes, upperBits, pairMask}

@@ -2,7 +2,7 @@
 use mathlib.Core.Bool.{true, cond}
 use Rattle.descriptors.specs.declared.Limits.{Limits}
 use Rattle.descriptors.specs.declared.Stage1.{Stage1}
-use Rattle.records.specs.declared.setup.Setup.{Setup}
+use Rattle.setups.specs.declared.Setup.{Setup}
 use Rattle.permissions.specs.Direct.{directOf}
 use Rattle.permissions.specs.Indirect.{indirectOf}
 use Rattle.permissions.specs.declared.BaseAnswer.{BaseAnswer}

@@ -4,7 +4,7 @@
 use mathlib.Core.Bool.{Bool, true, false, cond, not, _&&_, _||_}
 use Rattle.descriptors.specs.declared.Limits.{Limits}
 use Rattle.descriptors.specs.declared.Stage1.{Stage1}
-use Rattle.records.specs.declared.setup.Control.{Control}
+use Rattle.setups.specs.declared.Control.{Control}
 use Rattle.permissions.specs.declared.Rights.{Rights}
 
 -- pr, pw, px, ur, uw, ux

@@ -6,8 +6,8 @@ use lib.Dec.{ltb}
 use lib.ListN.{getD}
 use Rattle.descriptors.specs.Descriptor.{codeAt}
 use Rattle.descriptors.specs.declared.index.PIIndex.{PIIndex}
-use Rattle.records.specs.declared.setup.Control.{Control}
-use Rattle.records.specs.declared.setup.LevelRegisters.{LevelRegisters}
+use Rattle.setups.specs.declared.Control.{Control}
+use Rattle.records.specs.declared.words.LevelRegisters.{LevelRegisters}
 use Rattle.permissions.specs.Direct.{six}
 use Rattle.permissions.specs.declared.Base.{Base}
 use Rattle.permissions.specs.declared.BaseAnswer.{BaseAnswer}

@@ -1,6 +1,6 @@
 // What the base rights of stage 1 are, before overlays: Direct and Indirect permissions (document 01, 'Stage 1 rights'), and the types of the
 // answers. Part of the rights layer. The functions are in `direct`, `indirect` and `base`.
-use records::setup::LevelBits;
+use setups::LevelBits;
 
 // The six rights: read, write and execute, privileged and unprivileged.
 pub struct Rights {

@@ -10,10 +10,10 @@ use lib.ListN.{getD}
 use lib.Pow.{shr-shr, field, mod-mod-pow, pow-mono}
 use Rattle.records.proofs.Cases.{upto, at, each}
 use Rattle.descriptors.specs.Bits.{bit, nibble}
-use Rattle.records.specs.declared.access.Right.{Right}
-use Rattle.records.specs.declared.access.Right.the-variants.{Read, Write, Execute}
-use Rattle.stages.specs.Overlay.{three, hasRight}
-use Rattle.stages.specs.declared.level.LevelRights.{LevelRights}
+use Rattle.accesses.specs.declared.Right.{Right}
+use Rattle.accesses.specs.declared.Right.the-variants.{Read, Write, Execute}
+use Rattle.stages.specs.LevelRights.{three, hasRight}
+use Rattle.stages.specs.declared.LevelRights.{LevelRights}
 use Rattle.plan.specs.Register.{slotBit, slotNumber, cutMask}
 use Rattle.plan.specs.Plan.{any}
 

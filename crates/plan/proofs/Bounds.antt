@@ -8,8 +8,8 @@ use native.Mathlib.Omega.{arith}
 use lib.Dec.{ltb}
 use lib.ListN.{length, replicate}
 use borrow.Author.Tests.{ltb-true}
-use Rattle.records.specs.declared.access.Level.{Level}
-use Rattle.records.specs.declared.setup.Setup.{Setup}
+use Rattle.accesses.specs.declared.Level.{Level}
+use Rattle.setups.specs.declared.Setup.{Setup}
 use Rattle.plan.specs.Plan.{leafAt, plansOf, orRefused, refusedFrom, firstUncured, registerFor, settled, planLeaves, planFrom, startOf, planOf}
 use Rattle.plan.specs.declared.Plan.{Plan}
 use Rattle.plan.specs.declared.Plan.the-variants.{Register, Refused}

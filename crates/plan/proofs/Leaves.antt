@@ -7,21 +7,21 @@ use lib.ListN.{length}
 use borrow.Author.Tests.{eq-eqb}
 use Rattle.records.specs.Leaf.{leafOf, readLeaf}
 use Rattle.descriptors.specs.Descriptor.{stage1Of, stage2Of, limitsOf}
-use Rattle.records.specs.declared.access.Level.{Level}
+use Rattle.accesses.specs.declared.Level.{Level}
 use Rattle.records.specs.declared.leaf.Leaf.{Leaf}
 use Rattle.records.specs.declared.leaf.LeafRead.{LeafRead}
 use Rattle.records.specs.declared.leaf.LeafRead.the-variants as read
-use Rattle.records.specs.declared.setup.Setup.{Setup}
+use Rattle.setups.specs.declared.Setup.{Setup}
 use Rattle.levels.proofs.Levels.{access-refused}
 use Rattle.levels.proofs.Ranges.{place-is, refused-is}
 use Rattle.checks.specs.Checks.{leafCheck}
 use Rattle.levels.specs.Level.{rangeOf}
 use Rattle.levels.specs.Register.{put, allOpen}
-use Rattle.checks.specs.declared.answer.Answer.{Answer}
-use Rattle.checks.specs.declared.answer.Answer.the-variants as answer
+use Rattle.answers.specs.declared.Answer.{Answer}
+use Rattle.answers.specs.declared.Answer.the-variants as answer
 use Rattle.levels.specs.declared.LevelRange.{LevelRange}
 use Rattle.levels.specs.declared.LevelRange.the-variants as range
-use Rattle.stages.specs.declared.level.LevelRights.{LevelRights}
+use Rattle.stages.specs.declared.LevelRights.{LevelRights}
 use Rattle.plan.specs.Demand3.{Passes}
 use Rattle.plan.specs.Register.{slotNumber}
 use Rattle.plan.specs.Plan.{after, any, common, forbiddenRights, rangePlan, leafPlan, leafPlanOf}

@@ -9,15 +9,15 @@ use lib.ListN.{getD}
 use Rattle.descriptors.specs.Descriptor.{stage1Of, stage2Of, limitsOf}
 use Rattle.records.proofs.Cases.{each, each-digit}
 use Rattle.records.specs.Leaf.{readLeaf}
-use Rattle.records.specs.Setup.{setupFrom}
-use Rattle.records.specs.declared.access.Level.{Level}
-use Rattle.records.specs.declared.access.Level.the-variants.{Privileged, Unprivileged}
+use Rattle.setups.specs.Setup.{setupFrom}
+use Rattle.accesses.specs.declared.Level.{Level}
+use Rattle.accesses.specs.declared.Level.the-variants.{Privileged, Unprivileged}
 use Rattle.records.specs.declared.leaf.LeafRead.{LeafRead}
 use Rattle.records.specs.declared.leaf.LeafRead.the-variants as leaf
-use Rattle.records.specs.declared.setup.Words.{Words}
+use Rattle.records.specs.declared.words.Words.{Words}
 use Rattle.checks.specs.Checks.{leafCheck}
-use Rattle.stages.specs.Overlay.{three}
-use Rattle.stages.specs.declared.level.LevelRights.{LevelRights}
+use Rattle.stages.specs.LevelRights.{three}
+use Rattle.stages.specs.declared.LevelRights.{LevelRights}
 use Rattle.levels.proofs.Masks.{and-bits, any-bits}
 use Rattle.levels.proofs.Table.{range-by}
 use Rattle.levels.specs.Level.{rangeOf}

@@ -7,22 +7,22 @@ use Prim.Native.Nat.{ℕ, _<_}
 use native.Mathlib.Omega.{arith}
 use Rattle.descriptors.specs.Bits.{bit, nibble}
 use Rattle.descriptors.specs.Descriptor.{placeOf, slotAt}
-use Rattle.records.specs.declared.access.Level.{Level}
-use Rattle.records.specs.declared.access.Right.{Right}
-use Rattle.records.specs.declared.access.Right.the-variants.{Read, Write, Execute}
+use Rattle.accesses.specs.declared.Level.{Level}
+use Rattle.accesses.specs.declared.Right.{Right}
+use Rattle.accesses.specs.declared.Right.the-variants.{Read, Write, Execute}
 use Rattle.descriptors.specs.declared.Limits.{Limits}
 use Rattle.descriptors.specs.declared.Stage1.{Stage1}
 use Rattle.descriptors.specs.declared.Stage2.{Stage2}
-use Rattle.records.specs.declared.setup.Setup.{Setup}
+use Rattle.setups.specs.declared.Setup.{Setup}
 use Rattle.levels.proofs.Levels.{answerTo, right-is}
 use Rattle.levels.proofs.Ranges.{bare-is, rights-with, place-is}
-use Rattle.checks.specs.Answers.{permitted}
+use Rattle.answers.specs.Answers.{permitted}
 use Rattle.levels.specs.Level.{rangeOf, between}
-use Rattle.stages.specs.Overlay.{hasRight}
+use Rattle.stages.specs.LevelRights.{hasRight}
 use Rattle.levels.specs.Register.{put}
 use Rattle.levels.specs.declared.LevelRange.the-variants.{Range}
-use Rattle.stages.specs.declared.level.LevelAnswer.the-variants.{Rights}
-use Rattle.stages.specs.declared.level.LevelRights.{LevelRights}
+use Rattle.stages.specs.declared.LevelAnswer.the-variants.{Rights}
+use Rattle.stages.specs.declared.LevelRights.{LevelRights}
 use Rattle.plan.specs.Register.{slotBit}
 use Rattle.plan.proofs.Bits.{nought-slot}
 

@@ -6,17 +6,17 @@ use Prim.Native.Nat.{ℕ, _/_, _%_, _≤_}
 use native.Mathlib.Omega.{arith}
 use lib.Dec.{eqb, leb}
 use borrow.Author.Tests.{eqb-true, leb-true, eq-eqb, le-leb}
-use Rattle.records.specs.Setup.{readSetup}
-use Rattle.records.specs.declared.access.Level.{Level}
-use Rattle.records.specs.declared.setup.Setup.{Setup}
-use Rattle.records.specs.declared.setup.SetupRead.{SetupRead}
-use Rattle.records.specs.declared.setup.SetupRead.the-variants as setup
+use Rattle.setups.specs.Setup.{readSetup}
+use Rattle.accesses.specs.declared.Level.{Level}
+use Rattle.setups.specs.declared.Setup.{Setup}
+use Rattle.setups.specs.declared.SetupRead.{SetupRead}
+use Rattle.setups.specs.declared.SetupRead.the-variants as setup
 use Rattle.checks.specs.Checks.{setupCheck, levelCheck}
-use Rattle.stages.specs.Overlay.{bitOf}
-use Rattle.checks.specs.declared.answer.Answer.{Answer}
-use Rattle.checks.specs.declared.answer.Answer.the-variants as answer
-use Rattle.checks.specs.declared.checks.LevelCheck.{LevelCheck}
-use Rattle.checks.specs.declared.checks.LevelCheck.the-variants as level
+use Rattle.overlays.specs.Overlay.{bitOf}
+use Rattle.answers.specs.declared.Answer.{Answer}
+use Rattle.answers.specs.declared.Answer.the-variants as answer
+use Rattle.checks.specs.declared.LevelCheck.{LevelCheck}
+use Rattle.checks.specs.declared.LevelCheck.the-variants as level
 use Rattle.plan.specs.Demand3.{Accepted}
 use Rattle.plan.specs.Plan.{after, startLevel, startSetup, startOf}
 use Rattle.plan.specs.declared.Start.{Start}

@@ -6,9 +6,9 @@ use Prim.Native.Nat.{ℕ}
 use native.Mathlib.Omega.{arith}
 use types.Run.{OneOf}
 use denote.Enum.Declared.{tagOf}
-use Rattle.checks.proofs.answer.Answer.{the-type}
-use Rattle.checks.specs.declared.answer.Answer.{Answer}
-use Rattle.checks.specs.declared.answer.Answer.the-variants.{Permitted, Fault, Refused}
+use Rattle.answers.proofs.Answer.{the-type}
+use Rattle.answers.specs.declared.Answer.{Answer}
+use Rattle.answers.specs.declared.Answer.the-variants.{Permitted, Fault, Refused}
 use Rattle.plan.specs.Plan.{numberOf, after}
 
 pub stands : {A : Type 0} (x : Answer) (refuse : ℕ → A) (b : A) → OneOf (1 ∷ 2 ∷ []) (tagOf the-type x) → refuse (numberOf x) ≡ after x refuse b

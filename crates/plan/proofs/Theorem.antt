@@ -10,19 +10,19 @@ use native.Mathlib.Omega.{arith}
 use lib.Dec.{eqb, ltb}
 use lib.ListN.{length, getD, replicate, getD-replicate, length-take, length-drop}
 use borrow.Author.Tests.{eqb-true, eq-eqb, ltb-true, ltb-false}
-use Rattle.records.specs.Access.{accessOf}
+use Rattle.accesses.specs.Access.{accessOf}
 use Rattle.descriptors.specs.Bits.{bit, nibble}
 use Rattle.records.specs.Leaf.{leafOf}
 use Rattle.descriptors.specs.Descriptor.{stage1Of, stage2Of, limitsOf}
-use Rattle.records.specs.declared.access.Level.{Level}
-use Rattle.records.specs.declared.access.Right.{Right}
-use Rattle.records.specs.declared.access.Right.the-variants.{Read, Write, Execute}
-use Rattle.records.specs.declared.setup.Setup.{Setup}
-use Rattle.checks.specs.Answers.{permitted}
+use Rattle.accesses.specs.declared.Level.{Level}
+use Rattle.accesses.specs.declared.Right.{Right}
+use Rattle.accesses.specs.declared.Right.the-variants.{Read, Write, Execute}
+use Rattle.setups.specs.declared.Setup.{Setup}
+use Rattle.answers.specs.Answers.{permitted}
 use Rattle.rights.specs.Order.{leafAnswer}
-use Rattle.stages.specs.Overlay.{hasRight}
+use Rattle.stages.specs.LevelRights.{hasRight}
 use Rattle.levels.specs.Register.{put}
-use Rattle.stages.specs.declared.level.LevelRights.{LevelRights}
+use Rattle.stages.specs.declared.LevelRights.{LevelRights}
 use Rattle.plan.specs.Register.{Usable, slotBit, accessNumber, packFrom}
 use Rattle.plan.specs.Plan.{forbiddenRights, common, any, leafAt, plansOf, orRefused, uncured, refusedFrom, firstUncured, cuts, registerFor, settled, planLeaves, planOf}
 use Rattle.plan.specs.Demand3.{Passes, leafNo, Allowed, Forbids, Cures, Separates, Largest, FirstUncured, Demand3, Accepted, Demanded}

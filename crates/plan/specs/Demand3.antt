@@ -7,22 +7,22 @@ use mathlib.Core.List.{List}
 use mathlib.Core.Bool.{true}
 use mathlib.Core.Logic.{_⊎_}
 use lib.ListN.{length}
-use Rattle.records.specs.Access.{accessOf}
+use Rattle.accesses.specs.Access.{accessOf}
 use Rattle.descriptors.specs.Bits.{bit}
 use Rattle.records.specs.Leaf.{leafOf}
-use Rattle.records.specs.Setup.{readSetup}
-use Rattle.records.specs.declared.access.Level.{Level}
-use Rattle.records.specs.declared.access.Right.{Right}
+use Rattle.setups.specs.Setup.{readSetup}
+use Rattle.accesses.specs.declared.Level.{Level}
+use Rattle.accesses.specs.declared.Right.{Right}
 use Rattle.records.specs.declared.leaf.Leaf.{Leaf}
-use Rattle.records.specs.declared.setup.Setup.{Setup}
-use Rattle.records.specs.declared.setup.SetupRead.the-variants as setup
-use Rattle.checks.specs.Answers.{permitted}
+use Rattle.setups.specs.declared.Setup.{Setup}
+use Rattle.setups.specs.declared.SetupRead.the-variants as setup
+use Rattle.answers.specs.Answers.{permitted}
 use Rattle.checks.specs.Checks.{setupCheck, levelCheck, leafCheck}
 use Rattle.rights.specs.Order.{leafAnswer}
-use Rattle.stages.specs.Overlay.{bitOf}
+use Rattle.overlays.specs.Overlay.{bitOf}
 use Rattle.levels.specs.Register.{put, allOpen}
-use Rattle.checks.specs.declared.answer.Answer.the-variants as answer
-use Rattle.checks.specs.declared.checks.LevelCheck.the-variants.{Known}
+use Rattle.answers.specs.declared.Answer.the-variants as answer
+use Rattle.checks.specs.declared.LevelCheck.the-variants.{Known}
 use Rattle.plan.specs.Register.{Usable, accessNumber}
 use Rattle.plan.specs.Plan.{leafAt}
 use Rattle.plan.specs.declared.Plan.{Plan}

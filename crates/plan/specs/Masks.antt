@@ -6,12 +6,12 @@ use mathlib.Core.Bool.{not}
 use lib.Bits.{bitAnd}
 use lib.Dec.{eqb}
 use lib.ListN.{getD}
-use Rattle.records.specs.declared.access.Level.{Level}
-use Rattle.records.specs.declared.access.Level.the-variants.{Privileged, Unprivileged}
+use Rattle.accesses.specs.declared.Level.{Level}
+use Rattle.accesses.specs.declared.Level.the-variants.{Privileged, Unprivileged}
 use Rattle.records.specs.Leaf.{readLeaf}
 use Rattle.records.specs.declared.leaf.LeafRead.{LeafRead}
 use Rattle.records.specs.declared.leaf.LeafRead.the-variants as leaf
-use Rattle.records.specs.declared.setup.Words.{Words}
+use Rattle.records.specs.declared.words.Words.{Words}
 use Rattle.checks.specs.Checks.{leafCheck}
 use Rattle.levels.specs.Table.{rangeBy}
 use Rattle.levels.specs.declared.RangeMask.{RangeMask}

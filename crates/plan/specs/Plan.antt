@@ -8,24 +8,25 @@ use lib.ListN.{length, getD, take, drop, set, replicate}
 use Rattle.descriptors.specs.Bits.{bit}
 use Rattle.records.specs.Leaf.{readLeaf}
 use Rattle.descriptors.specs.Descriptor.{stage1Of, stage2Of, limitsOf}
-use Rattle.records.specs.Setup.{readSetup}
-use Rattle.records.specs.declared.access.Level.{Level}
-use Rattle.records.specs.declared.access.Right.the-variants.{Read, Write, Execute}
+use Rattle.setups.specs.Setup.{readSetup}
+use Rattle.accesses.specs.declared.Level.{Level}
+use Rattle.accesses.specs.declared.Right.the-variants.{Read, Write, Execute}
 use Rattle.records.specs.declared.leaf.LeafRead.{LeafRead}
 use Rattle.records.specs.declared.leaf.LeafRead.the-variants as leaf
-use Rattle.records.specs.declared.setup.Setup.{Setup}
-use Rattle.records.specs.declared.setup.SetupRead.{SetupRead}
-use Rattle.records.specs.declared.setup.SetupRead.the-variants as setup
+use Rattle.setups.specs.declared.Setup.{Setup}
+use Rattle.setups.specs.declared.SetupRead.{SetupRead}
+use Rattle.setups.specs.declared.SetupRead.the-variants as setup
 use Rattle.checks.specs.Checks.{setupCheck, levelCheck, leafCheck}
 use Rattle.levels.specs.Level.{rangeOf}
-use Rattle.stages.specs.Overlay.{three, bitOf}
-use Rattle.checks.specs.declared.answer.Answer.{Answer}
-use Rattle.checks.specs.declared.answer.Answer.the-variants as answer
-use Rattle.checks.specs.declared.checks.LevelCheck.{LevelCheck}
-use Rattle.checks.specs.declared.checks.LevelCheck.the-variants as level
+use Rattle.stages.specs.LevelRights.{three}
+use Rattle.overlays.specs.Overlay.{bitOf}
+use Rattle.answers.specs.declared.Answer.{Answer}
+use Rattle.answers.specs.declared.Answer.the-variants as answer
+use Rattle.checks.specs.declared.LevelCheck.{LevelCheck}
+use Rattle.checks.specs.declared.LevelCheck.the-variants as level
 use Rattle.levels.specs.declared.LevelRange.{LevelRange}
 use Rattle.levels.specs.declared.LevelRange.the-variants as range
-use Rattle.stages.specs.declared.level.LevelRights.{LevelRights}
+use Rattle.stages.specs.declared.LevelRights.{LevelRights}
 use Rattle.plan.specs.Register.{accessNumber, slotNumber, cutMask, packFrom}
 use Rattle.plan.specs.declared.Plan.{Plan}
 use Rattle.plan.specs.declared.Plan.the-variants.{Register, Refused}

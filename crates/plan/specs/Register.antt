@@ -7,11 +7,11 @@ use mathlib.Core.Bool.{cond}
 use lib.Bits.{bitAnd}
 use lib.ListN.{getD}
 use Rattle.descriptors.specs.Bits.{nibble}
-use Rattle.records.specs.declared.access.Level.{Level}
-use Rattle.records.specs.declared.access.Level.the-variants.{Privileged, Unprivileged}
-use Rattle.records.specs.declared.access.Right.{Right}
-use Rattle.records.specs.declared.access.Right.the-variants.{Read, Write, Execute}
-use Rattle.stages.specs.declared.level.LevelRights.{LevelRights}
+use Rattle.accesses.specs.declared.Level.{Level}
+use Rattle.accesses.specs.declared.Level.the-variants.{Privileged, Unprivileged}
+use Rattle.accesses.specs.declared.Right.{Right}
+use Rattle.accesses.specs.declared.Right.the-variants.{Read, Write, Execute}
+use Rattle.stages.specs.declared.LevelRights.{LevelRights}
 
 -- a 64-bit register whose slots 0 to 7 hold 0 to 7 and whose slots 8 to 15 hold 0
 pub record Usable (r : ℕ) : Type 0 where

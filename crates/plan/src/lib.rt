@@ -1,7 +1,7 @@
 // What the planner answers (document 01, 'The planner'): the definition of the plan, demand 3 with its theorem, and the types of the answers.
 // Part of the planner. Of the rights layer it uses the laws of `levels`. The functions are in `starts`, `cuts` and `planner`.
-use records::access::Level;
-use records::setup::Setup;
+use accesses::Level;
+use setups::Setup;
 
 // A register, or a refusal's number and the leaf's index (0 if none is at fault).
 pub enum Plan {

@@ -6,22 +6,22 @@
 ghost use mathlib.Core.Path.{_≡_};
 ghost use Prim.Native.Nat.{_/_, _%_, _≤_};
 ghost use lib.ListN.{length};
-ghost use Rattle.records.specs.Setup.{setupFrom};
+ghost use Rattle.setups.specs.Setup.{setupFrom};
 ghost use Rattle.levels.specs.Table.{BaseTable};
 ghost use Rattle.plan.specs.Plan.{planLeaves, planOf, valuesOf};
 ghost use Rattle.plan.specs.Demand3.{Demanded};
 use crate::masks::cut_mask;
 use crate::masks::first_of;
 use crate::masks::pack;
+use accesses::Level;
 use base_table::base_table;
 use cuts::plan_leaf;
 use cuts::refusal;
 use plan::LeafPlan;
 use plan::Plan;
 use plan::Start;
-use records::access::Level;
-use records::setup::Words;
-use records::setup::WordsRead;
+use records::words::Words;
+use records::words::WordsRead;
 use starts::begin;
 
 mod masks;
@@ -69,7 +69,7 @@ pub fn plan_level(setup: &[u8], level: u64, leaves: &[u8]) -> Plan
     ensures { λ r. ⌜ valuesOf r ≡ valuesOf (planOf (now (setup .entry)) level (now (leaves .entry))) ⌝ }
     ensures { λ r. ⌜ Demanded (now (setup .entry)) level (now (leaves .entry)) r ⌝ }
 {
-    let WordsRead::Read(q) = records::setup::read_words(setup) else {
+    let WordsRead::Read(q) = records::words::read_words(setup) else {
         return Plan::Refused {
             number: 13,
             leaf: 0,

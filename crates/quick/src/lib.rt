@@ -6,7 +6,7 @@ use descriptors::index::POIndex;
 use direct_masks::level_part;
 use permissions::Mask;
 use records::leaf::Leaf;
-use records::setup::Words;
+use records::words::Words;
 
 // The rights that slots leave which grant `g` and of which `r` are reserved.
 fn overlaid_bits(m: u8, g: u8, r: u8) -> u8

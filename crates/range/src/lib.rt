@@ -1,15 +1,15 @@
 // What the planner asks of a leaf at a level. Part of the rights layer. No public function has a `requires`.
 ghost use mathlib.Core.Path.{_≡_};
-ghost use Rattle.records.specs.Setup.{controlOf};
-ghost use Rattle.stages.specs.Overlay.{bitOf};
+ghost use Rattle.setups.specs.Setup.{controlOf};
+ghost use Rattle.overlays.specs.Overlay.{bitOf};
 ghost use Rattle.levels.specs.Masks.{rangeWith};
 ghost use Rattle.levels.specs.Table.{rangeBy};
+use accesses::Level;
 use descriptors::index::POIndex;
 use levels::RangeMask;
 use pass::level_mask;
 use permissions::Mask;
-use records::access::Level;
-use records::setup::Words;
+use records::words::Words;
 
 fn range_with(place: usize, full: Mask, bare: Mask) -> RangeMask
     ensures { λ x. ⌜ x ≡ rangeWith place full bare ⌝ }

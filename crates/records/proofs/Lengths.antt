@@ -1,4 +1,4 @@
--- A setup or leaf that is refused is refused with 13. Assumes nothing.
+-- A leaf that is refused is refused with 13. Assumes nothing.
 use mathlib.Core.Path.{_≡_, refl}
 use mathlib.Core.Bool.{Bool, true, false}
 use mathlib.Core.List.{List}
@@ -8,17 +8,7 @@ use lib.Dec.{eqb}
 use lib.ListN.{length}
 use borrow.Author.Tests.{eq-eqb}
 use Rattle.records.specs.Leaf.{leafOf, readLeaf}
-use Rattle.records.specs.Setup.{setupOf, readSetup}
 use Rattle.records.specs.declared.leaf.LeafRead.the-variants as leaf
-use Rattle.records.specs.declared.setup.SetupRead.the-variants as setup
-
-pub setup-13 : (s : List ℕ) (k : ℕ) → readSetup s ≡ setup.Refused k → k ≡ 13
-unfolding readSetup
-setup-13 s k e = go (eqb (length s) 52) refl
-  where
-    go : (t : Bool) → eqb (length s) 52 ≡ t → k ≡ 13
-    go true q = let f : setup.Read (setupOf s) ≡ setup.Refused k = rw q at e in let z : _≡_ {A = ℕ} 0 1 = cc in absurd (omega arith)
-    go false q = let f : setup.Refused 13 ≡ setup.Refused k = rw q at e in cc
 
 pub leaf-13 : (s : List ℕ) (k : ℕ) → readLeaf s ≡ leaf.Refused k → k ≡ 13
 unfolding readLeaf

@@ -1,4 +1,3 @@
 pub mod Bytes
-pub mod Setup
+pub mod Words
 pub mod Leaf
-pub mod Access

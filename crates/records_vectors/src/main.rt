@@ -6,6 +6,9 @@
 // 6 the example as a file: its length, the room for leaves, an index and the byte to put there (at index 3 the example has 2B), name;
 // 7 a leaf of 18 equal bytes, with a PIR and a POR.
 ghost use Prim.Native.Nat.{_≤_};
+use accesses::AccessRead;
+use accesses::Level;
+use accesses::Right;
 use libc::STDIN_FILENO;
 use mapfile::FileRead;
 use printing::flags;
@@ -15,13 +18,10 @@ use printing::print_rest;
 use printing::register;
 use printing::text;
 use printing::word;
-use records::access::AccessRead;
-use records::access::Level;
-use records::access::Right;
 use records::leaf::LeafRead;
-use records::setup::Control;
-use records::setup::Setup;
-use records::setup::SetupRead;
+use setups::Control;
+use setups::Setup;
+use setups::SetupRead;
 
 fn print_control(c: Control) {
     let on = [
@@ -59,7 +59,7 @@ fn print_registers(s: Setup) {
 }
 
 fn print_setup(b: &[u8]) {
-    let SetupRead::Read(s) = records::setup::read_setup(b) else {
+    let SetupRead::Read(s) = setups::read_setup(b) else {
         text(b"setup refused 13\n");
         return;
     };
@@ -143,7 +143,7 @@ fn print_right(r: Right) {
 
 fn print_access(n: u64) {
     number(b"access ", n);
-    let AccessRead::Read(a) = records::access::read_access(n) else {
+    let AccessRead::Read(a) = accesses::read_access(n) else {
         text(b" unknown\n");
         return;
     };
@@ -285,7 +285,7 @@ fn print_case(t: &[u8], k: usize) {
         1 => print_part(true, t, k),
         2 => print_stage1(x, word(t, k, 2), word(t, k, 3)),
         3 => print_stage2(x),
-        4 => print_control(records::setup::read_control((x % 0x100000000) as u32)),
+        4 => print_control(setups::read_control((x % 0x100000000) as u32)),
         5 => print_access(x),
         6 => print_file_case(t, k),
         _ => print_same(low(x), word(t, k, 2), word(t, k, 3)),

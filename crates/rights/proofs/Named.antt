@@ -5,35 +5,36 @@ use mathlib.Core.Logic.{_⊎_, inl, inr}
 use Prim.Native.Nat.{ℕ, _≤_}
 use native.Mathlib.Omega.{arith}
 use lib.Dec.{leb, ltb}
-use Rattle.records.specs.Access.{accessAt}
+use Rattle.accesses.specs.Access.{accessAt}
 use Rattle.descriptors.specs.Descriptor.{codeAt, slotAt, stage1Of, stage2Of, limitsOf}
-use Rattle.records.specs.declared.access.Access.{Access}
+use Rattle.accesses.specs.declared.Access.{Access}
 use Rattle.descriptors.specs.declared.index.PIIndex.{PIIndex}
-use Rattle.records.specs.declared.access.Right.{Right}
+use Rattle.accesses.specs.declared.Right.{Right}
 use Rattle.records.specs.declared.leaf.Leaf.{Leaf}
 use Rattle.descriptors.specs.declared.Limits.{Limits}
 use Rattle.descriptors.specs.declared.Stage1.{Stage1}
 use Rattle.descriptors.specs.declared.Stage2.{Stage2}
-use Rattle.records.specs.declared.setup.Control.{Control}
-use Rattle.records.specs.declared.setup.LevelRegisters.{LevelRegisters}
-use Rattle.records.specs.declared.setup.Setup.{Setup}
+use Rattle.setups.specs.declared.Control.{Control}
+use Rattle.records.specs.declared.words.LevelRegisters.{LevelRegisters}
+use Rattle.setups.specs.declared.Setup.{Setup}
 use Rattle.permissions.specs.Base.{directBase, baseOf}
 use Rattle.permissions.specs.Indirect.{codeOf, granted, indirectOf}
 use Rattle.permissions.specs.declared.Base.{Base}
 use Rattle.permissions.specs.declared.BaseAnswer.{BaseAnswer}
 use Rattle.permissions.specs.declared.BaseAnswer.the-variants as base
-use Rattle.checks.specs.Answers.{follow, faultUnless, refuseIf, descriptorAnswer}
+use Rattle.answers.specs.Answers.{follow, faultUnless, refuseIf, descriptorAnswer}
 use Rattle.checks.specs.Checks.{clash, unjudged, setupCheck, accessCheck, leafCheck}
 use Rattle.stage1.specs.Stage1.{dirty, baseAnswer, stage1Answer}
 use Rattle.rights.specs.Order.{stagesAnswer, leafAnswer, afterAccess, rightsAnswer}
-use Rattle.stages.specs.Overlay.{hasRight, has, bitOf, registerOf, slotRights, slotAnswer}
+use Rattle.stages.specs.LevelRights.{hasRight, has}
+use Rattle.overlays.specs.Overlay.{bitOf, registerOf, slotRights, slotAnswer}
 use Rattle.stage2.specs.Stage2.{stage2Rights, stage2Answer}
-use Rattle.checks.specs.declared.answer.Answer.{Answer}
-use Rattle.checks.specs.declared.answer.Answer.the-variants.{Permitted, Fault, Refused}
-use Rattle.checks.specs.declared.answer.Fault.{Fault as FaultOf}
-use Rattle.checks.specs.declared.answer.Kind.{Kind}
-use Rattle.checks.specs.declared.answer.Kind.the-variants.{Translation, AccessFlag, Permission, Overlay}
-use Rattle.checks.specs.declared.checks.AccessCheck.the-variants as access
+use Rattle.answers.specs.declared.Answer.{Answer}
+use Rattle.answers.specs.declared.Answer.the-variants.{Permitted, Fault, Refused}
+use Rattle.answers.specs.declared.Fault.{Fault as FaultOf}
+use Rattle.answers.specs.declared.Kind.{Kind}
+use Rattle.answers.specs.declared.Kind.the-variants.{Translation, AccessFlag, Permission, Overlay}
+use Rattle.checks.specs.declared.AccessCheck.the-variants as access
 
 pub data Named : Answer → Type 0 where
   permits : Named Permitted

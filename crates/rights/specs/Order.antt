@@ -2,19 +2,19 @@
 use Prim.Native.Nat.{ℕ}
 use mathlib.Core.Bool.{cond}
 use Rattle.descriptors.specs.Descriptor.{stage1Of, stage2Of, limitsOf}
-use Rattle.records.specs.declared.access.Access.{Access}
+use Rattle.accesses.specs.declared.Access.{Access}
 use Rattle.records.specs.declared.leaf.Leaf.{Leaf}
 use Rattle.descriptors.specs.declared.Limits.{Limits}
 use Rattle.descriptors.specs.declared.Stage1.{Stage1}
 use Rattle.descriptors.specs.declared.Stage2.{Stage2}
-use Rattle.records.specs.declared.setup.Setup.{Setup}
-use Rattle.checks.specs.Answers.{follow}
+use Rattle.setups.specs.declared.Setup.{Setup}
+use Rattle.answers.specs.Answers.{follow}
 use Rattle.checks.specs.Checks.{setupCheck, accessCheck, leafCheck}
 use Rattle.stage2.specs.Stage2.{stage2Answer}
-use Rattle.checks.specs.declared.answer.Answer.{Answer}
-use Rattle.checks.specs.declared.answer.Answer.the-variants.{Permitted, Refused}
-use Rattle.checks.specs.declared.checks.AccessCheck.{AccessCheck}
-use Rattle.checks.specs.declared.checks.AccessCheck.the-variants as access
+use Rattle.answers.specs.declared.Answer.{Answer}
+use Rattle.answers.specs.declared.Answer.the-variants.{Permitted, Refused}
+use Rattle.checks.specs.declared.AccessCheck.{AccessCheck}
+use Rattle.checks.specs.declared.AccessCheck.the-variants as access
 use Rattle.stage1.specs.Stage1.{stage1Answer}
 
 -- stage 1, if on, then stage 2, if on. A stage that is off permits everything, and its descriptor is ignored

@@ -10,22 +10,22 @@ use lib.Dec.{eqb, ltb}
 use lib.ListN.{length, getD}
 use borrow.Author.Tests.{eqb-true}
 use Rattle.records.proofs.Cases.{upto, at}
-use Rattle.records.specs.Access.{accessAt}
+use Rattle.accesses.specs.Access.{accessAt}
 use Rattle.descriptors.specs.Bits.{bit}
-use Rattle.records.specs.Setup.{setupOf, readSetup}
-use Rattle.records.specs.declared.access.Level.{Level}
-use Rattle.records.specs.declared.access.Level.the-variants.{Privileged, Unprivileged}
-use Rattle.records.specs.declared.access.Right.{Right}
-use Rattle.records.specs.declared.access.Right.the-variants.{Read, Write, Execute}
+use Rattle.setups.specs.Setup.{setupOf, readSetup}
+use Rattle.accesses.specs.declared.Level.{Level}
+use Rattle.accesses.specs.declared.Level.the-variants.{Privileged, Unprivileged}
+use Rattle.accesses.specs.declared.Right.{Right}
+use Rattle.accesses.specs.declared.Right.the-variants.{Read, Write, Execute}
 use Rattle.records.specs.declared.leaf.Leaf.{Leaf}
-use Rattle.records.specs.declared.setup.Setup.{Setup}
-use Rattle.records.specs.declared.setup.SetupRead.the-variants as setup
+use Rattle.setups.specs.declared.Setup.{Setup}
+use Rattle.setups.specs.declared.SetupRead.the-variants as setup
 use Rattle.rights.proofs.Named.{stages-answer}
-use Rattle.checks.specs.Answers.{permitted}
+use Rattle.answers.specs.Answers.{permitted}
 use Rattle.rights.specs.Order.{leafAnswer, rightsAnswer}
 use Rattle.levels.specs.Register.{put}
-use Rattle.checks.specs.declared.answer.Answer.{Answer}
-use Rattle.checks.specs.declared.answer.Answer.the-variants as answer
+use Rattle.answers.specs.declared.Answer.{Answer}
+use Rattle.answers.specs.declared.Answer.the-variants as answer
 use Rattle.judgement.proofs.Demands.{list-meets}
 use Rattle.judgement.specs.Demands.{isAllowed}
 use Rattle.judgement.specs.Judge.{after, judged}

@@ -7,10 +7,10 @@ use mathlib.Core.List.{List, _++_}
 use lib.Bits.{bitAnd}
 use lib.ListN.{length, getD, take, drop}
 use Rattle.descriptors.specs.Bits.{bit}
-use Rattle.records.specs.declared.access.Level.{Level}
-use Rattle.records.specs.declared.access.Level.the-variants.{Privileged, Unprivileged}
-use Rattle.records.specs.declared.access.Right.{Right}
-use Rattle.records.specs.declared.setup.Setup.{Setup}
+use Rattle.accesses.specs.declared.Level.{Level}
+use Rattle.accesses.specs.declared.Level.the-variants.{Privileged, Unprivileged}
+use Rattle.accesses.specs.declared.Right.{Right}
+use Rattle.setups.specs.declared.Setup.{Setup}
 use Rattle.judgement.specs.Cases.{bytesOf}
 use Rattle.judgement.specs.List.{leafAt, listOf}
 use Rattle.judgement.specs.declared.Listed.the-variants.{Done}

@@ -7,7 +7,7 @@ use codes::stage2::uncached_code;
 use descriptors::Stage1;
 use descriptors::Stage2;
 use memory::step::Reached;
-use records::setup::Setup;
+use setups::Setup;
 
 // SH is 01 in a stage that is on.
 pub fn reserved_sh(s: Setup, one: Stage1, two: Stage2) -> bool

@@ -4,7 +4,7 @@ ghost use Prim.Native.Nat.{_+_, _*_, _^_, _<_};
 ghost use Rattle.descriptors.specs.Bits.{field};
 ghost use Rattle.judgement.specs.Answers.{judgementValues, kindNumber};
 ghost use Rattle.sonsiplex.specs.Packing.{packJudgement, judgementFields, numbers, packNumbers};
-use checks::answer::Kind;
+use answers::Kind;
 use judgement::Judgement;
 
 fn wide(x: u8) -> u64

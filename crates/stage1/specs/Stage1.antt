@@ -1,20 +1,21 @@
 -- Document 01, 'The order a judgement is made in', stage 1: its steps for one access. Assumes nothing.
 use mathlib.Core.Bool.{Bool, cond, _&&_}
 use Rattle.descriptors.specs.Descriptor.{slotAt}
-use Rattle.records.specs.declared.access.Access.{Access}
+use Rattle.accesses.specs.declared.Access.{Access}
 use Rattle.descriptors.specs.declared.Limits.{Limits}
 use Rattle.descriptors.specs.declared.Stage1.{Stage1}
-use Rattle.records.specs.declared.setup.Control.{Control}
-use Rattle.records.specs.declared.setup.Setup.{Setup}
+use Rattle.setups.specs.declared.Control.{Control}
+use Rattle.setups.specs.declared.Setup.{Setup}
 use Rattle.permissions.specs.Base.{baseOf}
 use Rattle.permissions.specs.declared.Base.{Base}
 use Rattle.permissions.specs.declared.BaseAnswer.{BaseAnswer}
 use Rattle.permissions.specs.declared.BaseAnswer.the-variants as base
-use Rattle.checks.specs.Answers.{follow, faultUnless, descriptorAnswer}
-use Rattle.stages.specs.Overlay.{has, bitOf, registerOf, slotAnswer}
-use Rattle.checks.specs.declared.answer.Answer.{Answer}
-use Rattle.checks.specs.declared.answer.Answer.the-variants.{Refused}
-use Rattle.checks.specs.declared.answer.Kind.the-variants.{Permission}
+use Rattle.answers.specs.Answers.{follow, faultUnless, descriptorAnswer}
+use Rattle.stages.specs.LevelRights.{has}
+use Rattle.overlays.specs.Overlay.{bitOf, registerOf, slotAnswer}
+use Rattle.answers.specs.declared.Answer.{Answer}
+use Rattle.answers.specs.declared.Answer.the-variants.{Refused}
+use Rattle.answers.specs.declared.Kind.the-variants.{Permission}
 
 -- dirty state at stage 1: bit 51 set under Direct, bit 7 under Indirect
 abbrev pub dirty : Control → Stage1 → Bool

@@ -1,20 +1,20 @@
 // Stage 1 of one access, step by step: the first fault or refusal is the answer. Part of the rights layer. No public function has a
 // `requires`.
 ghost use mathlib.Core.Path.{_≡_};
-ghost use Rattle.stages.specs.Overlay.{has};
+ghost use Rattle.stages.specs.LevelRights.{has};
 ghost use Rattle.stage1.specs.Stage1.{dirty, baseAnswer, stage1Answer};
 use crate::overlay::overlay_answer;
-use checks::answer::Answer;
-use checks::answer::Kind;
-use checks::answer::fault_unless;
+use accesses::Access;
+use answers::Answer;
+use answers::Kind;
+use answers::descriptor_answer;
+use answers::fault_unless;
 use descriptors::Limits;
 use descriptors::Stage1;
 use permissions::BaseAnswer;
-use records::access::Access;
-use records::setup::Control;
-use records::setup::Setup;
-use stages::descriptor::descriptor_answer;
-use stages::level::has;
+use setups::Control;
+use setups::Setup;
+use stages::has;
 
 mod overlay;
 

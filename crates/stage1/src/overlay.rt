@@ -1,20 +1,20 @@
 // The overlay of one access.
 ghost use mathlib.Core.Path.{_≡_};
-ghost use Rattle.stages.specs.Overlay.{slotAnswer};
+ghost use Rattle.overlays.specs.Overlay.{slotAnswer};
 ghost use Rattle.stage1.specs.Stage1.{overlayAnswer};
-use checks::answer::Answer;
-use checks::answer::Kind;
-use checks::answer::fault_unless;
-use checks::answer::refuse_if;
+use accesses::Access;
+use accesses::Right;
+use answers::Answer;
+use answers::Kind;
+use answers::fault_unless;
+use answers::refuse_if;
 use descriptors::Stage1;
+use overlays::bit_of;
+use overlays::register_of;
+use overlays::slot_rights;
 use permissions::Base;
-use records::access::Access;
-use records::access::Right;
-use records::setup::Setup;
-use stages::level::bit_of;
-use stages::level::has_right;
-use stages::level::register_of;
-use stages::level::slot_rights;
+use setups::Setup;
+use stages::has_right;
 
 // The overlay where it is on and applies: a reserved slot, then an Overlay fault.
 fn slot_answer(on: bool, v: u8, r: Right) -> Answer

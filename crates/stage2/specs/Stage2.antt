@@ -3,14 +3,14 @@ use Prim.Native.Nat.{ℕ}
 use mathlib.Core.Bool.{Bool, true, false}
 use mathlib.Core.List.{[], _∷_}
 use lib.ListN.{getD}
-use Rattle.records.specs.declared.access.Access.{Access}
+use Rattle.accesses.specs.declared.Access.{Access}
 use Rattle.descriptors.specs.declared.Stage2.{Stage2}
 use Rattle.permissions.specs.Direct.{six}
 use Rattle.permissions.specs.declared.Rights.{Rights}
-use Rattle.checks.specs.Answers.{follow, faultUnless, descriptorAnswer}
-use Rattle.stages.specs.Overlay.{has}
-use Rattle.checks.specs.declared.answer.Answer.{Answer}
-use Rattle.checks.specs.declared.answer.Kind.the-variants.{Permission}
+use Rattle.answers.specs.Answers.{follow, faultUnless, descriptorAnswer}
+use Rattle.stages.specs.LevelRights.{has}
+use Rattle.answers.specs.declared.Answer.{Answer}
+use Rattle.answers.specs.declared.Kind.the-variants.{Permission}
 
 -- XN 00: px ux; 01: ux; 10: neither; 11: px
 unfoldable pub xnPx : ℕ → Bool

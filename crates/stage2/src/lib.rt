@@ -1,17 +1,17 @@
 // Stage 2 of one access, step by step, and the rights that it grants (document 01, 'Stage 2 rights'). Part of the rights layer. No public
 // function has a `requires`.
 ghost use mathlib.Core.Path.{_≡_};
-ghost use Rattle.stages.specs.Overlay.{has};
+ghost use Rattle.stages.specs.LevelRights.{has};
 ghost use Rattle.stage2.specs.Stage2.{stage2Rights};
 ghost use Rattle.stage2.specs.Stage2.{stage2Answer};
-use checks::answer::Answer;
-use checks::answer::Kind;
-use checks::answer::fault_unless;
+use accesses::Access;
+use answers::Answer;
+use answers::Kind;
+use answers::descriptor_answer;
+use answers::fault_unless;
 use descriptors::Stage2;
 use permissions::Rights;
-use records::access::Access;
-use stages::descriptor::descriptor_answer;
-use stages::level::has;
+use stages::has;
 
 // What a stage 2 descriptor grants.
 pub fn stage2_rights(d: Stage2) -> Rights

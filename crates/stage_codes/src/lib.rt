@@ -9,7 +9,7 @@ use codes::stage2::reserved_code;
 use descriptors::Stage1;
 use descriptors::Stage2;
 use memory::step::Reached;
-use records::setup::Setup;
+use setups::Setup;
 
 // The byte that AttrIndx picks in MAIR or MAIR2.
 pub fn mair_byte(s: Setup, one: Stage1) -> u8

@@ -1,14 +1,14 @@
 // The checks before the leaves: 13, 1, 2, 3, 4, 12, 11. Part of the planner. No public function has a `requires`.
 ghost use mathlib.Core.Path.{_≡_};
 ghost use mathlib.Core.Bool.{_&&_};
-ghost use Rattle.stages.specs.Overlay.{bitOf};
+ghost use Rattle.overlays.specs.Overlay.{bitOf};
 ghost use Rattle.plan.specs.Plan.{numberOf, startOf};
-use checks::answer::Answer;
-use checks::checks::LevelCheck;
+use accesses::Level;
+use answers::Answer;
+use checks::LevelCheck;
 use plan::Start;
-use records::access::Level;
-use records::setup::Control;
-use records::setup::SetupRead;
+use setups::Control;
+use setups::SetupRead;
 
 // The number of a check's refusal.
 pub fn number_of(a: Answer) -> u8
@@ -35,16 +35,16 @@ fn is_on(c: Control, l: Level) -> bool
 pub fn begin(setup: &[u8], level: u64, len: usize) -> Start
     ensures { λ r. ⌜ r ≡ startOf (now (setup .entry)) level len ⌝ }
 {
-    let read = records::setup::read_setup(setup);
+    let read = setups::read_setup(setup);
     let SetupRead::Read(s) = read else {
         return Start::Refused(13);
     };
     let c = s.control;
-    let check = checks::checks::check_setup(c);
+    let check = checks::check_setup(c);
     let Answer::Permitted = check else {
         return Start::Refused(number_of(check));
     };
-    let known = checks::checks::check_level(level);
+    let known = checks::check_level(level);
     let LevelCheck::Known(l) = known else {
         return Start::Refused(4);
     };

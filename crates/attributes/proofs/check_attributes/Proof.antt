@@ -5,7 +5,7 @@ use lib.Dec.{eqb}
 use Prim.Native.Nat.{ℕ, _/_, _%_, _^_}
 use Rattle.descriptors.specs.Bits.{bit}
 use Rattle.descriptors.specs.Descriptor.{stage1Of, stage2Of}
-use Rattle.records.specs.Setup.{controlOf}
+use Rattle.setups.specs.Setup.{controlOf}
 use Rattle.memory.specs.Mair.{validByte, reservedByte}
 use Rattle.memory.specs.StageTwoType.{memAttrOf, reservedMemAttr}
 use Rattle.memory.specs.Shareability.{reservedSH}

@@ -1,6 +1,6 @@
 -- `leaf_rights` meets its contract: 5 refuses the leaf; else both levels. Assumes nothing.
 use denote.Ref.{now}
-use Rattle.records.specs.Setup.{controlOf}
+use Rattle.setups.specs.Setup.{controlOf}
 use Rattle.levels.specs.Table.{stage1With}
 use Rattle.judgement.specs.Pass.{passFrom, leafBy}
 use Rattle.judgement.proofs.Steps.{refuses}

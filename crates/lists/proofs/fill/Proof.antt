@@ -8,7 +8,7 @@ use native.Mathlib.Nat.{sub-zero}
 use native.Mathlib.Omega.{arith}
 use lib.ListN.{length, take, length-set}
 use lib.Seq.{take-suc-set}
-use Rattle.records.specs.Setup.{setupFrom}
+use Rattle.setups.specs.Setup.{setupFrom}
 use Rattle.judgement.specs.List.{bytes, walk}
 use Rattle.lists.specs.Walked.{passAt}
 use Rattle.lists.proofs.Walks.{ahead, ahead-none, one-more, one-refused, ends}

@@ -7,11 +7,11 @@ use lib.ListN.{length, take, length-replicate}
 use lib.Seq.{length-take-le}
 use denote.Ref.{now}
 use Rattle.records.proofs.Copies.{copied}
-use Rattle.records.proofs.Words.{setup-read, words-13}
-use Rattle.records.specs.Setup.{setupFrom}
-use Rattle.records.specs.declared.setup.Setup.{Setup}
+use Rattle.setups.proofs.Words.{setup-read, words-13}
+use Rattle.setups.specs.Setup.{setupFrom}
+use Rattle.setups.specs.declared.Setup.{Setup}
 use Rattle.checks.specs.Checks.{setupCheck}
-use Rattle.checks.specs.declared.answer.Answer.the-variants as answer
+use Rattle.answers.specs.declared.Answer.the-variants as answer
 use Rattle.judgement.specs.List.{Walk, Result, refuse, finish, leavesOf, afterCheck, listOf}
 use Rattle.lists.specs.Walked.{walkIn, refusedOf}
 use Rattle.lists.proofs.Lists.{reads-as, met, result, refused-setup, odd, long, short, goes}

@@ -9,7 +9,7 @@ use denote.Ref.{now}
 use Rattle.records.proofs.Lengths.{leaf-read}
 use Rattle.records.specs.Leaf.{readLeaf}
 use Rattle.records.specs.declared.leaf.LeafRead.the-variants.{Read}
-use Rattle.records.specs.Setup.{setupFrom}
+use Rattle.setups.specs.Setup.{setupFrom}
 use Rattle.judgement.proofs.Masks.{leaf-by}
 use Rattle.judgement.proofs.Quick.{sound}
 use Rattle.judgement.specs.Pass.{leafPass, leafBy}

@@ -10,7 +10,7 @@ use native.Mathlib.Nat.{le-antisymm, sub-zero, add-sub-cancel-left}
 use lib.Dec.{eqb}
 use lib.ListN.{length, getD, take, drop, set, replicate}
 use denote.Ref.{now}
-use Rattle.records.specs.Setup.{setupFrom}
+use Rattle.setups.specs.Setup.{setupFrom}
 use Rattle.plan.specs.Plan.{leafPlanOf, plansOf, refusalOf, orRefused, cutBy, uncured, refusedFrom, firstUncured, firstOf, cuts, settled, planLeaves}
 use Rattle.plan.specs.declared.Plan.the-variants.{Register, Refused}
 use Rattle.plan.specs.declared.LeafPlan.{LeafPlan}

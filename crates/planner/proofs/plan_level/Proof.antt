@@ -8,8 +8,8 @@ use Rattle.plan.specs.Demand3.{Demanded}
 use Rattle.plan.specs.Plan.{startOf, planLeaves, planFrom, planOf, valuesOf}
 use Rattle.plan.specs.declared.Plan.{Plan}
 use Rattle.plan.specs.declared.Start.{Start}
-use Rattle.records.proofs.Words.{setup-read}
-use Rattle.records.specs.declared.setup.Setup.{Setup}
+use Rattle.setups.proofs.Words.{setup-read}
+use Rattle.setups.specs.declared.Setup.{Setup}
 use Rattle.plan.proofs.Starts.{fits, same-setup, not-read}
 use Rattle.plan.proofs.Theorem.{demand3}
 use borrow.Author.Needs.{needs}

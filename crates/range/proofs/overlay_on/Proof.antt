@@ -1,5 +1,5 @@
 -- `overlay_on` meets its contract: by the level. Assumes nothing.
-use Rattle.records.specs.Setup.{controlOf}
+use Rattle.setups.specs.Setup.{controlOf}
 use borrow.Author.Needs.{needs}
 use Rattle.range.proofs.overlay_on.Statement.{statement}
 use Rattle.range.proofs.overlay_on.Tie as tie

@@ -1,5 +1,5 @@
 -- `base_answer` meets its contract: a refusal, or the permission and then the overlay. Assumes nothing.
-use Rattle.checks.proofs.Steps.{stands}
+use Rattle.answers.proofs.Steps.{stands}
 use borrow.Author.Needs.{needs}
 use Rattle.stage1.proofs.base_answer.Statement.{statement}
 use Rattle.stage1.proofs.base_answer.Tie as tie

@@ -1,6 +1,6 @@
 -- `stage1_answer` meets its contract: a fault or refusal of the first steps stands. Assumes nothing.
 use Rattle.stage1.specs.Stage1.{stage1Answer}
-use Rattle.checks.proofs.Steps.{stands}
+use Rattle.answers.proofs.Steps.{stands}
 use borrow.Author.Needs.{needs}
 use Rattle.stage1.proofs.stage1_answer.Statement.{statement}
 use Rattle.stage1.proofs.stage1_answer.Tie as tie

@@ -1,6 +1,6 @@
 -- `stage2_answer` meets its contract: a fault or refusal of the first steps stands. Assumes nothing.
 use Rattle.stage2.specs.Stage2.{stage2Answer}
-use Rattle.checks.proofs.Steps.{stands}
+use Rattle.answers.proofs.Steps.{stands}
 use borrow.Author.Needs.{needs}
 use Rattle.stage2.proofs.stage2_answer.Statement.{statement}
 use Rattle.stage2.proofs.stage2_answer.Tie as tie

@@ -1,6 +1,7 @@
 -- `judge::judge_access` meets its contract: 13 for lengths before all else. Assumes nothing.
 use mathlib.Core.Path.{refl, sym, ap, _∙_}
-use Rattle.records.proofs.Lengths.{setup-13, leaf-13}
+use Rattle.records.proofs.Lengths.{leaf-13}
+use Rattle.setups.proofs.Words.{setup-13}
 use Rattle.judgement.proofs.Demands.{judge-met}
 use Rattle.judgement.proofs.Steps.{judge-as}
 use Rattle.judgement.specs.declared.Judgement.the-variants.{Refused}

@@ -1,6 +1,6 @@
 -- `access::judge_stages` meets its contract: stage 1's fault or refusal stands before stage 2. Assumes nothing.
 use Rattle.rights.specs.Order.{stagesAnswer}
-use Rattle.checks.proofs.Steps.{stands}
+use Rattle.answers.proofs.Steps.{stands}
 use borrow.Author.Needs.{needs}
 use Rattle.rights.proofs.access.judge_stages.Statement.{statement}
 use Rattle.rights.proofs.access.judge_stages.Tie as tie

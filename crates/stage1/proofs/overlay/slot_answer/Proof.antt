@@ -1,5 +1,5 @@
 -- `overlay::slot_answer` meets its contract: a reserved slot stands before an Overlay fault. Assumes nothing.
-use Rattle.checks.proofs.Steps.{stands}
+use Rattle.answers.proofs.Steps.{stands}
 use borrow.Author.Needs.{needs}
 use Rattle.stage1.proofs.overlay.slot_answer.Statement.{statement}
 use Rattle.stage1.proofs.overlay.slot_answer.Tie as tie
