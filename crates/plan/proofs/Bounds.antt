@@ -9,8 +9,11 @@ use lib.Dec.{ltb}
 use lib.ListN.{length, replicate}
 use borrow.Author.Tests.{ltb-true}
 use Rattle.accesses.specs.declared.Level.{Level}
+use Rattle.setups.specs.Setup.{readSetup}
 use Rattle.setups.specs.declared.Setup.{Setup}
-use Rattle.plan.specs.Plan.{leafAt, plansOf, orRefused, refusedFrom, firstUncured, registerFor, settled, planLeaves, planFrom, startOf, planOf}
+use Rattle.setups.specs.declared.SetupRead.{SetupRead}
+use Rattle.setups.specs.declared.SetupRead.the-variants as setup
+use Rattle.plan.specs.Plan.{leafAt, plansOf, orRefused, refusedFrom, firstUncured, registerFor, settled, planLeaves, planFrom, planSetup, startOf, planOf}
 use Rattle.plan.specs.declared.Plan.{Plan}
 use Rattle.plan.specs.declared.Plan.the-variants.{Register, Refused}
 use Rattle.plan.specs.declared.LeafPlan.{LeafPlan}
@@ -52,15 +55,19 @@ module _ (s : Setup) (l : Level) (ls : List ℕ) where
 -- every answer
 pub within : (bytes : List ℕ) (lv : ℕ) (ls : List ℕ) → Within 2048 (planOf bytes lv ls)
 unfolding planOf planLeaves
-within bytes lv ls = go (startOf bytes lv (length ls)) refl
+within bytes lv ls = read (readSetup bytes)
   where
     wider : (p : Plan) (n : ℕ) → n ≤ 2048 → Within n p → Within 2048 p
     wider p n h (register r b) = register r b
     wider p n h (refusal k i (inl e)) = refusal k i (inl e)
     wider p n h (refusal k i (inr e)) = refusal k i (inr (omega arith))
 
-    go : (x : Start) → startOf bytes lv (length ls) ≡ x → Within 2048 (planFrom ls x)
-    go (start.Refused k) e = refusal k 0 (inl refl)
-    go (start.Leaves s l) e =
-        wider _ (length ls / 18) (fits (length ls) bytes lv s l e .1)
+    go : (s : Setup) (x : Start) → startOf (s .control) lv (length ls) ≡ x → Within 2048 (planFrom s ls x)
+    go s (start.Refused k) e = refusal k 0 (inl refl)
+    go s (start.Leaves l) e =
+        wider _ (length ls / 18) (fits (length ls) l (s .control) lv e .1)
         (refused-within (plansOf s l ls) (settled (plansOf s l ls) (length ls / 18)) (length ls / 18) (length ls / 18) 0 (omega arith) (settled-within s l ls (length ls / 18)))
+
+    read : (x : SetupRead) → Within 2048 (planSetup lv ls x)
+    read (setup.Refused n) = refusal 13 0 (inl refl)
+    read (setup.Read s) = go s (startOf (s .control) lv (length ls)) refl

@@ -314,7 +314,7 @@ module _ (s : Setup) (l : Level) (ls : List ℕ) where
 pub accepted-settles : (bytes : List ℕ) (lv : ℕ) (ls : List ℕ) (s : Setup) (l : Level) → Accepted bytes lv ls s l
     → planOf bytes lv ls ≡ settled (plansOf s l ls) (length ls / 18)
 unfolding planOf
-accepted-settles bytes lv ls s l A = rw (accepted-starts bytes lv ls s l A) (leaves-settle s l ls (A .passes))
+accepted-settles bytes lv ls s l A = rw (A .read, accepted-starts bytes lv ls s l A) (leaves-settle s l ls (A .passes))
 
 -- demand 3
 pub demand3 : (bytes : List ℕ) (lv : ℕ) (ls : List ℕ) (p : Plan) → p ≡ planOf bytes lv ls → Demanded bytes lv ls p

@@ -13,6 +13,7 @@ use Rattle.accesses.specs.declared.Level.{Level}
 use Rattle.accesses.specs.declared.Right.the-variants.{Read, Write, Execute}
 use Rattle.records.specs.declared.leaf.LeafRead.{LeafRead}
 use Rattle.records.specs.declared.leaf.LeafRead.the-variants as leaf
+use Rattle.setups.specs.declared.Control.{Control}
 use Rattle.setups.specs.declared.Setup.{Setup}
 use Rattle.setups.specs.declared.SetupRead.{SetupRead}
 use Rattle.setups.specs.declared.SetupRead.the-variants as setup
@@ -58,20 +59,15 @@ after (answer.Fault f) refuse x = refuse 0
 after (answer.Refused n) refuse x = refuse n
 
 -- 12: stage 1 or that level's overlay is off. 11: the list is not a multiple of 18 bytes or over 2,048 leaves
-abbrev pub startLevel : Setup → ℕ → LevelCheck → Start
-startLevel s len (level.Refused n) = start.Refused 4
-startLevel s len (level.Known l) =
-    cond (s .control .stage1 && bitOf (s .control .overlay) l)
-    (cond (eqb (len % 18) 0 && leb (len / 18) 2048) (start.Leaves s l) (start.Refused 11)) (start.Refused 12)
+abbrev pub startLevel : Control → ℕ → LevelCheck → Start
+startLevel c len (level.Refused n) = start.Refused 4
+startLevel c len (level.Known l) =
+    cond (c .stage1 && bitOf (c .overlay) l)
+    (cond (eqb (len % 18) 0 && leb (len / 18) 2048) (start.Leaves l) (start.Refused 11)) (start.Refused 12)
 
--- 1, 2, 3, then 4, 12, 11
-abbrev pub startSetup : ℕ → ℕ → SetupRead → Start
-startSetup lv len (setup.Refused n) = start.Refused 13
-startSetup lv len (setup.Read s) = after (setupCheck (s .control)) start.Refused (startLevel s len (levelCheck lv))
-
--- 13, 1, 2, 3, 4, 12, 11, for a list of `len` bytes
-unfoldable pub startOf : List ℕ → ℕ → ℕ → Start
-startOf bytes lv len = startSetup lv len (readSetup bytes)
+-- 1, 2, 3, then 4, 12, 11, for a list of `len` bytes
+unfoldable pub startOf : Control → ℕ → ℕ → Start
+startOf c lv len = after (setupCheck c) start.Refused (startLevel c len (levelCheck lv))
 
 -- the level's rights that a forbidden byte forbids
 abbrev pub forbiddenRights : ℕ → Level → LevelRights
@@ -159,12 +155,17 @@ unfoldable pub planLeaves : Setup → Level → List ℕ → Plan
 planLeaves s l ls = refusedFrom (plansOf s l ls) (settled (plansOf s l ls) (length ls / 18)) (length ls / 18) 0
 
 -- a refusal before the leaves has leaf 0
-abbrev pub planFrom : List ℕ → Start → Plan
-planFrom ls (start.Refused n) = Refused n 0
-planFrom ls (start.Leaves s l) = planLeaves s l ls
+abbrev pub planFrom : Setup → List ℕ → Start → Plan
+planFrom s ls (start.Refused n) = Refused n 0
+planFrom s ls (start.Leaves l) = planLeaves s l ls
+
+-- 13, then 1, 2, 3, 4, 12, 11, then the leaves
+abbrev pub planSetup : ℕ → List ℕ → SetupRead → Plan
+planSetup lv ls (setup.Refused n) = Refused 13 0
+planSetup lv ls (setup.Read s) = planFrom s ls (startOf (s .control) lv (length ls))
 
 unfoldable pub planOf : List ℕ → ℕ → List ℕ → Plan
-planOf bytes lv ls = planFrom ls (startOf bytes lv (length ls))
+planOf bytes lv ls = planSetup lv ls (readSetup bytes)
 
 -- one turn of the search for the first leaf that no register cures: `first` is the one found so far, or n
 abbrev pub firstOf : ℕ → ℕ → ℕ → Bool → ℕ

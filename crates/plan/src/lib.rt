@@ -1,7 +1,6 @@
 // What the planner answers (document 01, 'The planner'): the definition of the plan, demand 3 with its theorem, and the types of the answers.
 // Part of the planner. Of the rights layer it uses the laws of `levels`. The functions are in `starts`, `cuts` and `planner`.
 use accesses::Level;
-use setups::Setup;
 
 // A register, or a refusal's number and the leaf's index (0 if none is at fault).
 pub enum Plan {
@@ -9,9 +8,9 @@ pub enum Plan {
     Refused { number: u8, leaf: usize },
 }
 
-// The setup and the level to plan for, or a refusal's number.
+// The level to plan for, or a refusal's number.
 pub enum Start {
-    Leaves { setup: Setup, level: Level },
+    Leaves(Level),
     Refused(u8),
 }
 

@@ -75,10 +75,9 @@ pub fn plan_level(setup: &[u8], level: u64, leaves: &[u8]) -> Plan
             leaf: 0,
         };
     };
-    let start = begin(setup, level, leaves.len());
-    match start {
+    match begin(q.control, level, leaves.len()) {
         Start::Refused(number) => Plan::Refused { number, leaf: 0 },
-        Start::Leaves { setup: _, level: l } => {
+        Start::Leaves(l) => {
             let base = base_table(q.control, q.pir.privileged, q.pir.unprivileged);
             plan_leaves(q, &base, l, leaves)
         }

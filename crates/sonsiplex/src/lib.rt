@@ -1,18 +1,16 @@
 // The loader's interface: judge, list and planner over the C convention (document 01, 'File, program, host', last sentences). Each takes
-// byte slices as pointer and length, has no `requires`, and answers 64 bits, packed as specs/Packing.antt defines and docs/INTERFACE.md
-// lists. A refused call changes no lent byte.
+// byte slices as pointer and length, has no `requires`, and answers 64 bits, packed as `packing`'s specs/Packing.antt defines and
+// docs/INTERFACE.md lists. A refused call changes no lent byte.
 ghost use mathlib.Core.Path.{_≡_};
 ghost use Rattle.judgement.specs.Answers.{judgementValues};
 ghost use Rattle.judgement.specs.Judge.{judgeOf};
 ghost use Rattle.judgement.specs.List.{listOf};
 ghost use Rattle.plan.specs.Plan.{planOf};
-ghost use Rattle.sonsiplex.specs.Packing.{packJudgement, judgementFields, packNumbers, numberFields, listNumbers, planNumbers};
-use crate::pack::pack_judgement;
-use crate::pack::pack_numbers;
+ghost use Rattle.packing.specs.Packing.{packJudgement, judgementFields, packNumbers, numberFields, listNumbers, planNumbers};
 use judgement::Listed;
+use packing::pack_judgement;
+use packing::pack_numbers;
 use plan::Plan;
-
-mod pack;
 
 // The judgement of access number `access` of a leaf of 18 bytes under a setup of 52 bytes.
 #[no_mangle]
@@ -31,8 +29,8 @@ pub extern "C" fn sonsiplex_list(setup: &[u8], leaves: &[u8], out: &mut [u8]) ->
     ensures written { λ _. ⌜ now (out .exit) ≡ listOf (now (setup .entry)) (now (leaves .entry)) (now (out .entry)) .out ⌝ }
 {
     match lists::list_rights(setup, leaves, out) {
-        Listed::Done(n) => pack_numbers(0, 0, n as u64),
-        Listed::Refused { number, leaf } => pack_numbers(number, leaf, 0),
+        Listed::Done(n) => pack_numbers(0, 0, n as u32),
+        Listed::Refused { number, leaf } => pack_numbers(number, leaf as u16, 0),
     }
 }
 
@@ -43,7 +41,7 @@ pub extern "C" fn sonsiplex_plan(setup: &[u8], level: u64, leaves: &[u8]) -> u64
     ensures fields { λ r. ⌜ numberFields r ≡ planNumbers (planOf (now (setup .entry)) level (now (leaves .entry))) ⌝ }
 {
     match planner::plan_level(setup, level, leaves) {
-        Plan::Register(r) => pack_numbers(0, 0, r),
-        Plan::Refused { number, leaf } => pack_numbers(number, leaf, 0),
+        Plan::Register(r) => pack_numbers(0, 0, r as u32),
+        Plan::Refused { number, leaf } => pack_numbers(number, leaf as u16, 0),
     }
 }

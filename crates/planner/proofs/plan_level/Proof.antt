@@ -3,26 +3,38 @@ use mathlib.Core.Path.{_≡_, refl, sym, ap, _∙_}
 use mathlib.Core.List.{List}
 use Prim.Native.Nat.{ℕ}
 use lib.ListN.{length}
-use denote.Ref.{now}
+use Rattle.setups.proofs.Words.{asSetup, setup-read}
+use Rattle.setups.specs.Setup.{controlOf, setupFrom}
+use Rattle.records.specs.Words.{readWords}
+use Rattle.records.specs.declared.words.Words.{Words}
+use Rattle.records.specs.declared.words.WordsRead.{WordsRead}
+use Rattle.records.specs.declared.words.WordsRead.the-variants as words
 use Rattle.plan.specs.Demand3.{Demanded}
-use Rattle.plan.specs.Plan.{startOf, planLeaves, planFrom, planOf, valuesOf}
+use Rattle.plan.specs.Plan.{startOf, planFrom, planSetup, planOf, valuesOf}
 use Rattle.plan.specs.declared.Plan.{Plan}
 use Rattle.plan.specs.declared.Start.{Start}
-use Rattle.setups.proofs.Words.{setup-read}
-use Rattle.setups.specs.declared.Setup.{Setup}
-use Rattle.plan.proofs.Starts.{fits, same-setup, not-read}
+use Rattle.plan.proofs.Starts.{fits}
 use Rattle.plan.proofs.Theorem.{demand3}
 use borrow.Author.Needs.{needs}
 use Rattle.planner.proofs.plan_level.Statement.{statement}
 use Rattle.planner.proofs.plan_level.Tie as tie
 
+-- what is demanded of an answer
+abbrev Met : List ℕ → ℕ → List ℕ → Plan → Type 0
+Met bytes lv ls p = (p ≡ planOf bytes lv ls) × ((valuesOf p ≡ valuesOf (planOf bytes lv ls)) × Demanded bytes lv ls p)
+
 -- an answer that is the plan meets demand 3
-met : (bytes : List ℕ) (lv : ℕ) (ls : List ℕ) (x : Start) (p : Plan) → startOf bytes lv (length ls) ≡ x → p ≡ planFrom ls x
-    → (p ≡ planOf bytes lv ls) × ((valuesOf p ≡ valuesOf (planOf bytes lv ls)) × Demanded bytes lv ls p)
+met : (bytes : List ℕ) (lv : ℕ) (ls : List ℕ) (x : WordsRead) (p : Plan) → readWords bytes ≡ x → p ≡ planSetup lv ls (asSetup x) → Met bytes lv ls p
 unfolding planOf
 met bytes lv ls x p e q =
-    let r : p ≡ planOf bytes lv ls = q ∙ ap (planFrom ls) (sym e) in
+    let r : p ≡ planOf bytes lv ls = q ∙ ap (planSetup lv ls) (sym (setup-read bytes x e)) in
     (r, (ap valuesOf r, demand3 bytes lv ls p r))
+
+-- the answer where the words are read, by what the checks before the leaves give
+begun : (bytes : List ℕ) (lv : ℕ) (ls : List ℕ) (q : Words) (x : Start) (p : Plan) → readWords bytes ≡ words.Read q
+    → startOf (controlOf (q .control)) lv (length ls) ≡ x → p ≡ planFrom (setupFrom q) ls x → Met bytes lv ls p
+unfolding setupFrom
+begun bytes lv ls q x p r e f = met bytes lv ls (words.Read q) p r (f ∙ ap (planFrom (setupFrom q) ls) (sym e))
 
 read-words-requires : tie.Need-read-words-requires
 read-words-requires c κs = search needs
@@ -34,32 +46,28 @@ enum-told : tie.Need-enum-told
 enum-told c = search needs
 
 returns : tie.Need-returns
-returns c = met _ _ _ _ _ (not-read _ _ _ _ (setup-read _ _ (sym (c .before .before .read-words .ensures) ∙ c .enum-told .given .1))) refl
+returns c = met _ _ _ _ _ (sym (c .before .before .read-words .ensures) ∙ c .enum-told .given .1) refl
 
 begin-requires : tie.Need-begin-requires
 begin-requires c κs = search needs
 
-enum-known-start : tie.Need-enum-known-start
-enum-known-start c = search needs
+enum-known-number : tie.Need-enum-known-number
+enum-known-number c = search needs
 
-enum-known-start-2 : tie.Need-enum-known-start-2
-enum-known-start-2 c = search needs
+enum-known-l : tie.Need-enum-known-l
+enum-known-l c = search needs
 
 base-table-requires : tie.Need-base-table-requires
 base-table-requires c κs = search needs
 
 plan-leaves-requires : tie.Need-plan-leaves-requires
-plan-leaves-requires c κs = (c .before .base-table .ensures, fits _ (now (c .before .before .before .before .before .before .before .before .before .before .before .before .args .setup)) _ _ _ (sym (c .before .before .before .before .before .begin .ensures) ∙ c .before .before .before .start2 .given .1))
+plan-leaves-requires c κs = (c .before .base-table .ensures, fits _ _ _ _ (sym (c .before .before .before .before .before .begin .ensures) ∙ c .before .before .before .l .given .1))
 
 returns-2 : tie.Need-returns-2
-returns-2 c = met _ _ _ _ _ (sym (c .before .before .before .begin .ensures) ∙ c .before .start .given .1) refl
+returns-2 c = begun _ _ _ _ _ _ (sym (c .before .before .before .before .before .before .before .read-words .ensures) ∙ c .before .before .before .before .before .q .given .1) (sym (c .before .before .before .begin .ensures) ∙ c .before .number .given .1) refl
 
 returns-3 : tie.Need-returns-3
-returns-3 c = let a = c .before .before .before .before .before .before .before .before .before .before .before .before .before .args in
-    let v = c .before .before .before .before in
-    let e = sym (v .before .before .begin .ensures) ∙ v .start2 .given .1 in
-    let r = setup-read _ _ (sym (v .before .before .before .before .before .before .read-words .ensures) ∙ v .before .before .before .before .q .given .1) in
-    met _ _ _ _ _ e (c .plan-leaves .ensures ∙ ap (λ (s : Setup). planLeaves s (v .start2 .given .0 .1 .0) (now (a .leaves))) (same-setup _ _ _ _ _ _ r e))
+returns-3 c = begun _ _ _ _ _ _ (sym (c .before .before .before .before .before .before .before .before .before .before .read-words .ensures) ∙ c .before .before .before .before .before .before .before .before .q .given .1) (sym (c .before .before .before .before .before .before .begin .ensures) ∙ c .before .before .before .before .l .given .1) (c .plan-leaves .ensures)
 
 pub plan-level-spec : {M : Type 1} → statement M
 plan-level-spec =
@@ -70,8 +78,8 @@ plan-level-spec =
     enum-told
     returns
     begin-requires
-    enum-known-start
-    enum-known-start-2
+    enum-known-number
+    enum-known-l
     base-table-requires
     plan-leaves-requires
     returns-2

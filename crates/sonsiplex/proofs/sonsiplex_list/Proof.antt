@@ -1,8 +1,8 @@
 -- `sonsiplex_list` packs the list's answer. Assumes nothing.
 use mathlib.Core.Path.{sym, ap, _∙_}
-use Rattle.sonsiplex.proofs.Packing.{number, list-fit}
-use Rattle.sonsiplex.specs.Packing.{listNumbers}
 use native.Mathlib.Omega.{arith}
+use Rattle.packing.specs.Packing.{listNumbers}
+use Rattle.sonsiplex.proofs.Packing.{packed, list-fit}
 use borrow.Author.Needs.{needs}
 use Rattle.sonsiplex.proofs.sonsiplex_list.Statement.{statement}
 use Rattle.sonsiplex.proofs.sonsiplex_list.Tie as tie
@@ -13,26 +13,32 @@ list-rights-requires c κs = search needs
 enum-known-n : tie.Need-enum-known-n
 enum-known-n c = search needs
 
+cast-pack-numbers : tie.Need-cast-pack-numbers
+cast-pack-numbers c = omega (arith, list-fit _ _ _ _ _ (c .before .before .before .before .before .list-rights .ensures .0) (c .before .n .given .1) .1)
+
 pack-numbers-requires : tie.Need-pack-numbers-requires
-pack-numbers-requires c κs = let f = list-fit _ _ _ _ _ (c .before .before .before .before .before .list-rights .ensures .0) (c .before .n .given .1) in (omega (arith, f .0), omega (arith, f .1))
+pack-numbers-requires c κs = search needs
 
 enum-known-number : tie.Need-enum-known-number
 enum-known-number c = search needs
 
+cast-pack-numbers-2 : tie.Need-cast-pack-numbers-2
+cast-pack-numbers-2 c = omega (arith, list-fit _ _ _ _ _ (c .before .before .before .before .before .list-rights .ensures .0) (c .before .number .given .1) .0)
+
 pack-numbers-requires-2 : tie.Need-pack-numbers-requires-2
-pack-numbers-requires-2 c κs = let f = list-fit _ _ _ _ _ (c .before .before .before .before .before .list-rights .ensures .0) (c .before .number .given .1) in (omega (arith, f .0), omega (arith, f .1))
+pack-numbers-requires-2 c κs = search needs
 
 same-length : tie.Need-same-length
 same-length c = search needs
 
 returns : tie.Need-returns
-returns c = let m = number _ _ _ _ _ (ap listNumbers (sym (c .before .before .before .before .before .before .list-rights .ensures .0) ∙ c .before .before .n .given .1)) (c .pack-numbers .ensures) in (m .0, (m .1, c .before .before .before .before .before .before .list-rights .ensures .1 .0))
+returns c = let m = packed _ _ _ (ap listNumbers (sym (c .before .before .before .before .before .before .list-rights .ensures .0) ∙ c .before .before .n .given .1)) (c .pack-numbers .ensures) in (m .0, (m .1, c .before .before .before .before .before .before .list-rights .ensures .1 .0))
 
 same-length-2 : tie.Need-same-length-2
 same-length-2 c = search needs
 
 returns-2 : tie.Need-returns-2
-returns-2 c = let m = number _ _ _ _ _ (ap listNumbers (sym (c .before .before .before .before .before .before .list-rights .ensures .0) ∙ c .before .before .number .given .1)) (c .pack-numbers2 .ensures) in (m .0, (m .1, c .before .before .before .before .before .before .list-rights .ensures .1 .0))
+returns-2 c = let m = packed _ _ _ (ap listNumbers (sym (c .before .before .before .before .before .before .list-rights .ensures .0) ∙ c .before .before .number .given .1)) (c .pack-numbers2 .ensures) in (m .0, (m .1, c .before .before .before .before .before .before .list-rights .ensures .1 .0))
 
 pub sonsiplex-list-spec : {M : Type 1} → statement M
 sonsiplex-list-spec =
@@ -40,8 +46,10 @@ sonsiplex-list-spec =
     (tie.spec
     list-rights-requires
     enum-known-n
+    cast-pack-numbers
     pack-numbers-requires
     enum-known-number
+    cast-pack-numbers-2
     pack-numbers-requires-2
     same-length
     returns

@@ -1,9 +1,10 @@
-// Answers packed into 64 bits.
+// Answers packed into 64 bits, for the loader's interface. No public function has a `requires`: what a field of the packing holds is bounded by
+// the types of the parameters.
 ghost use mathlib.Core.Path.{_≡_};
-ghost use Prim.Native.Nat.{_+_, _*_, _^_, _<_};
+ghost use Prim.Native.Nat.{_+_, _*_, _^_};
 ghost use Rattle.descriptors.specs.Bits.{field};
 ghost use Rattle.judgement.specs.Answers.{judgementValues, kindNumber};
-ghost use Rattle.sonsiplex.specs.Packing.{packJudgement, judgementFields, numbers, packNumbers};
+ghost use Rattle.packing.specs.Packing.{packJudgement, judgementFields, numbers, packNumbers, numberFields};
 use answers::Kind;
 use judgement::Judgement;
 
@@ -36,7 +37,8 @@ fn pack_values(number: u8, stage: u8, kind: u8, byte: u8, sh: u8) -> u64
         + 0x100000000 * wide(sh)
 }
 
-pub(crate) fn pack_judgement(j: Judgement) -> u64
+// A judgement.
+pub fn pack_judgement(j: Judgement) -> u64
     ensures packed { λ r. ⌜ r ≡ packJudgement j ⌝ }
     ensures fields { λ r. ⌜ judgementFields r ≡ judgementValues j ⌝ }
 {
@@ -50,10 +52,10 @@ pub(crate) fn pack_judgement(j: Judgement) -> u64
     }
 }
 
-pub(crate) fn pack_numbers(number: u8, leaf: usize, value: u64) -> u64
-    requires { ⌜ (leaf < 2 ^ 16) × (value < 2 ^ 32) ⌝ }
+// What the list and the planner answer: a refusal's number, a leaf's index, and a value.
+pub fn pack_numbers(number: u8, leaf: u16, value: u32) -> u64
     ensures packed { λ r. ⌜ r ≡ packNumbers (numbers number leaf value) ⌝ }
-    ensures fields { λ r. ⌜ (field r 0 8 ≡ number) × (field r 16 16 ≡ leaf) × (field r 32 32 ≡ value) ⌝ }
+    ensures fields { λ r. ⌜ numberFields r ≡ numbers number leaf value ⌝ }
 {
-    wide(number) + 0x10000 * leaf as u64 + 0x100000000 * value
+    wide(number) + 0x10000 * leaf as u64 + 0x100000000 * value as u64
 }

@@ -2,9 +2,9 @@
 use mathlib.Core.Path.{ap}
 use borrow.Author.Needs.{needs}
 use Rattle.judgement.specs.Answers.{judgementValues}
-use Rattle.sonsiplex.proofs.Packing.{judgement}
-use Rattle.sonsiplex.proofs.pack.pack_judgement.Statement.{statement}
-use Rattle.sonsiplex.proofs.pack.pack_judgement.Tie as tie
+use Rattle.packing.proofs.Packing.{judgement}
+use Rattle.packing.proofs.pack_judgement.Statement.{statement}
+use Rattle.packing.proofs.pack_judgement.Tie as tie
 
 enum-known-j : tie.Need-enum-known-j
 enum-known-j c = search needs
