@@ -1,5 +1,6 @@
 // What all accesses of a level of a leaf give: the definitions, the one pass over all accesses, what the planner asks of a level, and the
-// laws between them and the answers of single accesses. Part of the rights layer. The functions are in `base_table`, `pass` and `range`.
+// laws between them and the answers of single accesses. Part of the rights layer. The functions are in `base_table`,
+// `stage1_word`, `pass` and `range`.
 use permissions::Base;
 use permissions::Rights;
 use stages::LevelAnswer;

@@ -70,7 +70,7 @@ pub fn quick_rights(
     let w = q.control;
     let d = l.stage1;
     let e = l.stage2;
-    let first = base_table::mask_of(base_table::stage1_word(base, w, d, l.limits));
+    let first = stage1_word::mask_of(stage1_word::stage1_word(base, w, d, l.limits));
     let Mask::Granted(m) = first else {
         return 64;
     };

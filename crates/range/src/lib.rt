@@ -44,7 +44,7 @@ pub fn level_range(q: Words, base: &[u16; 16], d: u64, e: u64, t: u8, l: Level) 
 {
     let w = q.control;
     let on = overlay_on(w, l);
-    let first = base_table::mask_of(base_table::stage1_word(base, w, d, t));
+    let first = stage1_word::mask_of(stage1_word::stage1_word(base, w, d, t));
     let second = pass::stage2_mask(w, e);
     let i = POIndex::of(d);
     range_with(

@@ -1,7 +1,7 @@
 -- `direct_word` meets its contract: the steps are the definition's. Assumes nothing.
 use borrow.Author.Needs.{needs}
-use Rattle.base_table.proofs.direct_word.Statement.{statement}
-use Rattle.base_table.proofs.direct_word.Tie as tie
+use Rattle.stage1_word.proofs.direct_word.Statement.{statement}
+use Rattle.stage1_word.proofs.direct_word.Tie as tie
 
 mul-i : tie.Need-mul-i
 mul-i c = search needs

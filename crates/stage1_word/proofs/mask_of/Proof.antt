@@ -2,8 +2,8 @@
 use native.Mathlib.Omega.{arith}
 use borrow.Author.Tests.{lt-ltb, le-ltb}
 use borrow.Author.Needs.{needs}
-use Rattle.base_table.proofs.mask_of.Statement.{statement}
-use Rattle.base_table.proofs.mask_of.Tie as tie
+use Rattle.stage1_word.proofs.mask_of.Statement.{statement}
+use Rattle.stage1_word.proofs.mask_of.Tie as tie
 
 cast-t3 : tie.Need-cast-t3
 cast-t3 c = search needs

@@ -1,8 +1,8 @@
 -- `stage1_word` meets its contract: each test picks its case. Assumes nothing.
 use borrow.Author.Tests.{eq-eqb, ne-eqb}
 use Rattle.levels.specs.Table.{stage1Word}
-use Rattle.base_table.proofs.stage1_word.Statement.{statement}
-use Rattle.base_table.proofs.stage1_word.Tie as tie
+use Rattle.stage1_word.proofs.stage1_word.Statement.{statement}
+use Rattle.stage1_word.proofs.stage1_word.Tie as tie
 
 returns : tie.Need-returns
 unfolding stage1Word
