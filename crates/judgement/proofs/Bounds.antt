@@ -7,6 +7,7 @@ use native.Mathlib.Omega.{arith}
 use lib.Dec.{eqb, leb}
 use lib.ListN.{length}
 use borrow.Author.Tests.{leb-true}
+use Rattle.records.proofs.Cases.{both-hold}
 use Rattle.setups.specs.Setup.{readSetup}
 use Rattle.setups.specs.declared.Setup.{Setup}
 use Rattle.setups.specs.declared.SetupRead.{SetupRead}
@@ -43,14 +44,6 @@ finished : (w : Walk) (n : ℕ) (o : List ℕ) → n ≤ 2048 → Named n w → 
 finished (bytes b) n o h v = done n h
 finished (refused k i) n o h (stops _ _ g) = refusal k i (omega arith)
 
-right : (a b : Bool) → (a && b) ≡ true → b ≡ true
-right true b e = e
-right false b e = let z : _≡_ {A = ℕ} 0 1 = cc in absurd (omega arith)
-
-left : (a b : Bool) → (a && b) ≡ true → a ≡ true
-left true b e = refl
-left false b e = e
-
 leaves-within : (s : Setup) (ls o : List ℕ) → Within (leavesOf s ls o .answer)
 unfolding leavesOf
 leaves-within s ls o = go (fits ls o) refl
@@ -58,7 +51,7 @@ leaves-within s ls o = go (fits ls o) refl
     go : (t : Bool) → fits ls o ≡ t
         → Within (cond t (finish (walk (λ (i : ℕ). leafRights s (leafAt ls i)) 0 (length ls / 18)) (length ls / 18) o) (refuse 11 0 o) .answer)
     go true e =
-        let h = leb-true (length ls / 18) 2048 (left _ (leb (length ls / 18) (length o)) (right (eqb (length ls % 18) 0) _ e)) in
+        let h = leb-true (length ls / 18) 2048 (both-hold _ (leb (length ls / 18) (length o)) (both-hold (eqb (length ls % 18) 0) _ e .1) .0) in
         finished _ (length ls / 18) o h (walk-named (λ (i : ℕ). leafRights s (leafAt ls i)) (length ls / 18) 0 (length ls / 18) (omega arith))
     go false e = refusal 11 0 (omega arith)
 

@@ -1,15 +1,15 @@
 -- The list's answer, case by case. Assumes nothing.
 use mathlib.Core.Path.{_≡_, refl, sym, ap, _∙_}
 use mathlib.Core.List.{List, [], _∷_}
-use mathlib.Core.Bool.{Bool, true, false, cond, _&&_}
+use mathlib.Core.Bool.{true, cond}
 use mathlib.Core.Logic.{⊎-elim}
-use Prim.Native.Nat.{ℕ, _*_, _/_, _%_, _≤_}
+use Prim.Native.Nat.{ℕ, _*_, _/_, _≤_}
 use native.Mathlib.Omega.{arith}
 use lib.ListN.{length}
-use lib.Dec.{eqb, leb}
 use borrow.Author.Tests.{leb-true}
 use types.Run.{OneOf}
 use denote.Enum.Declared.{tagOf}
+use Rattle.records.proofs.Cases.{both-hold}
 use Rattle.setups.specs.Setup.{readSetup}
 use Rattle.setups.specs.declared.Setup.{Setup}
 use Rattle.setups.specs.declared.SetupRead.{SetupRead}
@@ -61,10 +61,7 @@ pub record Room (ls o : List ℕ) : Type 0 where
   pub wide : length ls / 18 ≤ length o
 
 pub room : (ls o : List ℕ) → fits ls o ≡ true → Room ls o
-room ls o e = go (eqb (length ls % 18) 0) (leb (length ls / 18) 2048) (leb (length ls / 18) (length o)) refl refl refl e
-  where
-    go : (a b c : Bool) → eqb (length ls % 18) 0 ≡ a → leb (length ls / 18) 2048 ≡ b → leb (length ls / 18) (length o) ≡ c → (a && (b && c)) ≡ true → Room ls o
-    go true true true p q r e = record { whole = omega arith; few = leb-true _ _ q; wide = leb-true _ _ r }
-    go true true false p q r e = let z : _≡_ {A = ℕ} 0 1 = cc in absurd (omega arith)
-    go true false c p q r e = let z : _≡_ {A = ℕ} 0 1 = cc in absurd (omega arith)
-    go false b c p q r e = let z : _≡_ {A = ℕ} 0 1 = cc in absurd (omega arith)
+room ls o e =
+    let h = both-hold _ _ e in
+    let g = both-hold _ _ (h .1) in
+    record { whole = omega arith; few = leb-true _ _ (g .0); wide = leb-true _ _ (g .1) }

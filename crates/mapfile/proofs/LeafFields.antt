@@ -10,6 +10,10 @@ use lib.Dec.{leb}
 use lib.ListN.{length, take, drop, length-append, length-take, length-drop, drop-of-length-le}
 use lib.Seq.{take-at, take-length, drop-drop, length-take-le}
 use borrow.Author.Tests.{leb-true}
+use Rattle.records.proofs.Cases.{both-hold}
+use Rattle.mapfile.specs.Fields.{delivered}
+use Rattle.mapfile.specs.declared.FileRead.the-variants.{Map}
+use Rattle.records.specs.Bytes.{over}
 use Rattle.mapfile.specs.MapFile.{beginsWith, value, rest, Leaves, leaves, illFormed, after, leavesOf, fileOf, refuse, resultOf, readFile}
 
 pub after-none : (x : Leaves) → after 0 [] x ≡ x
@@ -23,11 +27,7 @@ after-after n m a b illFormed = refl
 -- a field that s begins with lies within s
 pub whole : (tag len : ℕ) (s : List ℕ) → beginsWith tag len s ≡ true → len + 3 ≤ length s
 unfolding beginsWith
-whole tag len s e = leb-true (len + 3) (length s) (left (leb (len + 3) (length s)) _ e)
-  where
-    left : (a b : Bool) → (a && b) ≡ true → a ≡ true
-    left true b e = refl
-    left false b e = e
+whole tag len s e = leb-true (len + 3) (length s) (both-hold (leb (len + 3) (length s)) _ e .0)
 
 -- a field's value has the field's length
 pub value-length : (len : ℕ) (s : List ℕ) → len + 3 ≤ length s → length (value len s) ≡ len
@@ -128,3 +128,18 @@ read-as s a b x e f = rw (e, f)
 pub read-other : (s a b : List ℕ) → beginsWith 1 52 s ≡ false → readFile s a b ≡ refuse 13 a b
 unfolding readFile fileOf
 read-other s a b e = rw e
+
+-- lent buffers that are long enough for the setup and k bytes of leaves
+pub enough : (a b : List ℕ) (k : ℕ) → (leb 52 (length a) && leb k (length b)) ≡ true → (52 ≤ length a) × (k ≤ length b)
+enough a b k e = let h = both-hold _ _ e in (leb-true 52 (length a) (h .0), leb-true k (length b) (h .1))
+
+-- what is handed over by whether they are, where v begins with the n leaves
+module _ (s v a b : List ℕ) (n : ℕ) (h : n * 18 ≤ length v) where
+  pub handed : (leb 52 (length a) && leb (n * 18) (length b)) ≡ true
+      → delivered s v n a b ≡ record { answer = Map n; setup = over (value 52 s) a; leaves = over (take (n * 18) v) b }
+  unfolding delivered
+  handed e = rw (length-take-le (n * 18) v h, e)
+
+  pub kept : (leb 52 (length a) && leb (n * 18) (length b)) ≡ false → delivered s v n a b ≡ refuse 11 a b
+  unfolding delivered
+  kept e = rw (length-take-le (n * 18) v h, e)

@@ -1,8 +1,8 @@
--- What `leaf_fields` answers: private to the layer. Assumes nothing.
+-- What `leaf_fields` and `deliver` answer: private to the layer. Assumes nothing.
 use Prim.Native.Nat.{ℕ, _*_}
 use mathlib.Core.List.{List}
 use lib.ListN.{take}
-use Rattle.mapfile.specs.MapFile.{Leaves, leaves, illFormed}
+use Rattle.mapfile.specs.MapFile.{Leaves, leaves, illFormed, Result, resultOf}
 use Rattle.mapfile.specs.declared.Fields.{Fields}
 use Rattle.mapfile.specs.declared.Fields.the-variants.{Whole, IllFormed}
 
@@ -10,3 +10,7 @@ use Rattle.mapfile.specs.declared.Fields.the-variants.{Whole, IllFormed}
 abbrev pub leavesIn : Fields → List ℕ → Leaves
 leavesIn (Whole n) v = leaves n (take (n * 18) v)
 leavesIn IllFormed v = illFormed
+
+-- what reading the file s gives, whose n leaves the buffer's contents v begin with
+unfoldable pub delivered : List ℕ → List ℕ → ℕ → List ℕ → List ℕ → Result
+delivered s v n a b = resultOf s (leaves n (take (n * 18) v)) a b

@@ -5,7 +5,7 @@ ghost use Prim.Native.Nat.{_+_, _*_, _≤_};
 ghost use lib.ListN.{length, drop};
 ghost use Rattle.records.specs.Bytes.{le16};
 ghost use Rattle.mapfile.specs.MapFile.{beginsWith, leavesOf, readFile};
-ghost use Rattle.mapfile.specs.Fields.{leavesIn};
+ghost use Rattle.mapfile.specs.Fields.{leavesIn, delivered};
 
 // The number of leaves of a map file, or a refusal's number.
 pub enum FileRead {
@@ -69,6 +69,22 @@ fn leaf_fields(file: &[u8], values: &mut [u8]) -> Fields
     Fields::Whole(n)
 }
 
+// Hands over a file's setup and its `n` leaves, which `values` holds, where both lent buffers are long enough.
+fn deliver(file: &[u8], values: &[u8], n: usize, setup: &mut [u8], leaves: &mut [u8]) -> FileRead
+    requires { ⌜ (55 ≤ length (now file)) × (n ≤ 2048) × (n * 18 ≤ length (now values)) ⌝ }
+    ensures answer { λ r. ⌜ r ≡ delivered (now (file .entry)) (now (values .entry)) n (now (setup .entry)) (now (leaves .entry)) .answer ⌝ }
+    ensures setup { λ r. ⌜ now (setup .exit) ≡ delivered (now (file .entry)) (now (values .entry)) n (now (setup .entry)) (now (leaves .entry)) .setup ⌝ }
+    ensures leaves { λ r. ⌜ now (leaves .exit) ≡ delivered (now (file .entry)) (now (values .entry)) n (now (setup .entry)) (now (leaves .entry)) .leaves ⌝ }
+{
+    let end = n * 18;
+    if (52 <= setup.len()) & (end <= leaves.len()) {
+        bytes::copy(&file[3..55], setup);
+        bytes::copy(&values[..end], leaves);
+        return FileRead::Map(n);
+    }
+    FileRead::Refused(11)
+}
+
 // Reads a map file: its setup's 52 bytes go to the start of `setup` and its leaves' bytes, one leaf after the other, to the
 // start of `leaves`; later bytes are unchanged. One pass over the file.
 pub fn read_file(file: &[u8], setup: &mut [u8], leaves: &mut [u8]) -> FileRead
@@ -81,17 +97,7 @@ pub fn read_file(file: &[u8], setup: &mut [u8], leaves: &mut [u8]) -> FileRead
         let Fields::Whole(n) = leaf_fields(file, &mut values) else {
             return FileRead::Refused(13);
         };
-        let end = n * 18;
-        if setup.len() < 52 {
-            return FileRead::Refused(11);
-        }
-        if leaves.len() < end {
-            return FileRead::Refused(11);
-        }
-        bytes::copy(&file[3..55], setup);
-        bytes::copy(&values[..end], leaves);
-        FileRead::Map(n)
-    } else {
-        FileRead::Refused(13)
+        return deliver(file, &values, n, setup, leaves);
     }
+    FileRead::Refused(13)
 }

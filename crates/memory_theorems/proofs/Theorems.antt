@@ -15,7 +15,7 @@ use Rattle.memory.specs.Shareability.{uncached, counted, stronger, reservedSH, 
 use Rattle.memory.specs.Order.{attributesOf, memoryOf}
 use Rattle.memory.specs.declared.Attributes.the-variants.{Combined, Refused}
 use Rattle.memory.specs.declared.Memory.{Memory}
-use Rattle.records.proofs.Cases.{at}
+use Rattle.records.proofs.Cases.{at, both-hold}
 use Rattle.memory.proofs.Codes.{at-codes}
 use Rattle.memory.proofs.Stages.{byte-on, byte-off, reserved-byte-on, sh-on, reserved-code-on, result-on, result-off, combined-on, combined-off}
 use Rattle.descriptors.specs.declared.Stage1.{Stage1}
@@ -28,11 +28,6 @@ where2 a b t = cond a (cond b t true) true
 
 where2-holds : (a b t : Bool) → where2 a b t ≡ true → a ≡ true → b ≡ true → t ≡ true
 where2-holds a b t e p q = rw (p, q) at e
-
-both-hold : (a b : Bool) → (a && b) ≡ true → (a ≡ true) × (b ≡ true)
-both-hold true true e = (refl, refl)
-both-hold true false e = (refl, e)
-both-hold false b e = (e, cc)
 
 -- a MAIR byte that is not refused
 abbrev pub ValidByte : ℕ → Type 0

@@ -5,6 +5,7 @@ use mathlib.Core.Path.{_≡_, refl, sym, ap, _∙_}
 use mathlib.Core.Bool.{Bool, true, false, _&&_, _||_}
 use Prim.Native.Nat.{ℕ, _<_}
 use native.Mathlib.Omega.{arith}
+use Rattle.records.proofs.Cases.{both-hold}
 use Rattle.descriptors.specs.Bits.{bit, nibble}
 use Rattle.descriptors.specs.Descriptor.{placeOf, slotAt}
 use Rattle.accesses.specs.declared.Level.{Level}
@@ -35,17 +36,13 @@ between-right f b v Execute = refl
 same-rights : (a b : LevelRights) → Rights a ≡ Rights b → a ≡ b
 same-rights a b e = cc
 
-left : (a b : Bool) → (a && b) ≡ true → a ≡ true
-left true b e = refl
-left false b e = e
-
 module _ (s : Setup) (d : Stage1) (e : Stage2) (t : Limits) (l : Level) (k : ℕ) (f b : LevelRights) where
   -- a right that is on with every slot bit off is on with every one on
   pub bare-within : rangeOf s d e t l ≡ Range k f b → (x : Right) → hasRight b x ≡ true → hasRight f x ≡ true
   bare-within q x h =
       let z = rights-with s d e t l k f b q 0 (let n = nought-slot (placeOf (d .poindex)) in omega arith) in
       let y : b ≡ between f b (slotAt 0 (d .poindex)) = same-rights b _ (sym (bare-is s d e t l k f b q) ∙ z) in
-      left (hasRight f x) _ (sym (between-right f b (slotAt 0 (d .poindex)) x) ∙ ap (λ (w : LevelRights). hasRight w x) (sym y) ∙ h)
+      both-hold (hasRight f x) _ (sym (between-right f b (slotAt 0 (d .poindex)) x) ∙ ap (λ (w : LevelRights). hasRight w x) (sym y) ∙ h) .0
 
   -- one access with a register in place
   pub allowed-is : rangeOf s d e t l ≡ Range k f b → (r : ℕ) → nibble r k < 8 → (x : Right)

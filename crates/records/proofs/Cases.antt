@@ -1,7 +1,7 @@
 -- Laws that turn one computation over a finite domain into the equation at each of its values: all numbers below k, both truth
--- values, and all lists of n truth values or binary digits. A table's rule and a rule over truth values are proved by them, with `refl`. Assumes nothing.
-use mathlib.Core.Path.{_≡_}
-use mathlib.Core.Bool.{Bool, true, false}
+-- values, and all lists of n truth values or binary digits. A table's rule and a rule over truth values are proved by them, with `refl`. And what a test of two parts tells. Assumes nothing.
+use mathlib.Core.Path.{_≡_, refl}
+use mathlib.Core.Bool.{Bool, true, false, _&&_}
 use mathlib.Core.List.{List, [], _∷_}
 use Prim.Native.Nat.{ℕ, zero, suc, _%_, _<_}
 use native.Mathlib.Nat.{le-of-suc-le-suc, not-suc-le-zero, mod-lt, zero-lt-suc}
@@ -32,6 +32,12 @@ both f = f false ∷ f true ∷ []
 pub at-both : {A : Type 0} (f g : Bool → A) → both f ≡ both g → (t : Bool) → f t ≡ g t
 at-both f g e false = head e
 at-both f g e true = head (tail e)
+
+-- two tests that hold together hold each
+pub both-hold : (a b : Bool) → (a && b) ≡ true → (a ≡ true) × (b ≡ true)
+both-hold true true e = (refl, refl)
+both-hold true false e = (refl, e)
+both-hold false b e = (e, cc)
 
 -- the values of a function at all lists of n truth values
 pub data Tree (A : Type 0) : Type 0 where

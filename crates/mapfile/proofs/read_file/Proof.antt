@@ -1,16 +1,12 @@
--- `read_file` meets its contract: what `leaf_fields` found is what the file holds, and each test picks its case of `resultOf`.
--- Assumes nothing.
+-- `read_file` meets its contract: what `leaf_fields` found is what the file holds. Assumes nothing.
 use mathlib.Core.Path.{_≡_, refl, sym, ap, _∙_}
 use mathlib.Core.List.{List}
-use Prim.Native.Nat.{ℕ, _≤_, _*_}
+use Prim.Native.Nat.{ℕ, _*_, _≤_}
 use native.Mathlib.Omega.{arith}
-use lib.ListN.{length, take, length-take, length-replicate}
-use lib.Seq.{length-take-le}
+use lib.ListN.{length, take, length-replicate}
 use denote.Ref.{now}
-use borrow.Author.Tests.{le-leb, lt-leb}
-use Rattle.mapfile.specs.Fields.{leavesIn}
-use Rattle.mapfile.specs.MapFile.{Leaves, leaves, value, readFile, resultOf}
-use Rattle.records.proofs.Copies.{copied}
+use Rattle.mapfile.specs.Fields.{leavesIn, delivered}
+use Rattle.mapfile.specs.MapFile.{Leaves, leaves, readFile, resultOf}
 use Rattle.mapfile.proofs.LeafFields.{whole, counted, read-as, read-other}
 use borrow.Author.Needs.{needs}
 use Rattle.mapfile.proofs.read_file.Statement.{statement}
@@ -42,13 +38,6 @@ told c = ap (λ f. leavesIn f (values (c .before .before .before))) (c .n .given
 few : (c : tie.After-n) → count c ≤ 2048
 few c = counted 2048 _ _ _ (c .before .before .before .leaf-fields .ensures ∙ told c) .0
 
-fits : (c : tie.After-n) → count c * 18 ≤ length (values (c .before .before .before))
-fits c = let h = few c in omega (arith, c .before .before .before .leaf-fields .kept .1 .0, length-replicate {A = ℕ} 36864 0)
-
--- the leaves fit into their lent buffer
-room : (c : tie.Else3) → length (take (count (c .before .before .before) * 18) (values (c .before .before .before .before .before .before))) ≤ length (now (start (c .before .before .before .before .before .before) .args .leaves))
-room c = rw (length-take-le _ _ (fits (c .before .before .before))) (c .if3 .left)
-
 begins-with-requires : tie.Need-begins-with-requires
 begins-with-requires c κs = search needs
 
@@ -67,35 +56,11 @@ enum-told c = search needs
 returns : tie.Need-returns
 returns c = rw (holds (c .before .before .before) _ (ap (λ f. leavesIn f (values (c .before .before .before))) (c .enum-told .given .1))) (refl, (refl, refl))
 
-mul-end : tie.Need-mul-end
-mul-end c = let h = few (c .before) in omega arith
+slice-aggregate-deliver : tie.Need-slice-aggregate-deliver
+slice-aggregate-deliver c = search needs
 
-returns-2 : tie.Need-returns-2
-returns-2 c = rw (holds (c .before .before .before .before .before) _ (told (c .before .before)), lt-leb _ _ (c .if2 .taken)) (refl, (refl, refl))
-
-returns-3 : tie.Need-returns-3
-returns-3 c = rw (holds (c .before .before .before .before .before .before) _ (told (c .before .before .before)), le-leb _ _ (c .before .if2 .left), length-take-le _ _ (fits (c .before .before .before)), lt-leb _ _ (c .if3 .taken)) (refl, (refl, refl))
-
-sub-copy : tie.Need-sub-copy
-sub-copy c = search needs
-
-part-copy-start : tie.Need-part-copy-start
-part-copy-start c = search needs
-
-part-copy-end : tie.Need-part-copy-end
-part-copy-end c = let g = c .before .before .before .before .before .before in whole 1 52 _ (sym (g .before .before .before .begins-with .ensures) ∙ g .before .before .if1 .taken)
-
-copy-requires : tie.Need-copy-requires
-copy-requires c κs = rw length-take (omega arith)
-
-array-share-prefix-values : tie.Need-array-share-prefix-values
-array-share-prefix-values c = fits (c .before .before .before .before .before .before .before .before)
-
-slice-aggregate-copy : tie.Need-slice-aggregate-copy
-slice-aggregate-copy c = sym (length-take-le _ _ (fits (c .before .before .before .before .before .before .before .before .before)))
-
-copy-requires-2 : tie.Need-copy-requires-2
-copy-requires-2 c κs = room (c .before .before .before .before .before .before .before)
+deliver-requires : tie.Need-deliver-requires
+deliver-requires c κs = let n = c .before .before .before .before in (whole 1 52 _ (sym (n .before .before .before .before .before .before .begins-with .ensures) ∙ n .before .before .before .before .before .if1 .taken), few n, let h = few n in omega (arith, n .before .before .before .leaf-fields .kept .1 .0, length-replicate {A = ℕ} 36864 0))
 
 same-length : tie.Need-same-length
 same-length c = search needs
@@ -103,15 +68,12 @@ same-length c = search needs
 same-length-2 : tie.Need-same-length-2
 same-length-2 c = search needs
 
-returns-4 : tie.Need-returns-4
-returns-4 c = let e = c .before .before .before .before .before .before .before .before .before .before in
-    let n = e .before .before .before in
-    let g = n .before .before .before in
-    rw (holds g _ (told n), le-leb _ _ (e .before .if2 .left), le-leb _ _ (room e))
-    (refl, (c .before .before .before .before .before .before .before .copy .ensures .1 ∙ copied (value 52 (file g)) (now (start g .args .setup)), c .before .before .copy2 .ensures .1 ∙ copied (take (count n * 18) (values g)) (now (start g .args .leaves))))
+returns-2 : tie.Need-returns-2
+unfolding delivered
+returns-2 c = rw (holds (c .before .before .before .before .before .before .before .before .before .before .before .before) _ (told (c .before .before .before .before .before .before .before .before .before))) (c .before .before .before .before .deliver .ensures)
 
-returns-5 : tie.Need-returns-5
-returns-5 c = rw (read-other _ _ _ (sym (c .before .begins-with .ensures) ∙ c .if1 .left)) (refl, (refl, refl))
+returns-3 : tie.Need-returns-3
+returns-3 c = rw (read-other _ _ _ (sym (c .before .begins-with .ensures) ∙ c .if1 .left)) (refl, (refl, refl))
 
 pub read-file-spec : {M : Type 1} → statement M
 read-file-spec =
@@ -123,17 +85,9 @@ read-file-spec =
     enum-known-n
     enum-told
     returns
-    mul-end
-    returns-2
-    returns-3
-    sub-copy
-    part-copy-start
-    part-copy-end
-    copy-requires
-    array-share-prefix-values
-    slice-aggregate-copy
-    copy-requires-2
+    slice-aggregate-deliver
+    deliver-requires
     same-length
     same-length-2
-    returns-4
-    returns-5)
+    returns-2
+    returns-3)
