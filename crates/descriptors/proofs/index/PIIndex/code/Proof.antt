@@ -1,0 +1,23 @@
+-- `index::PIIndex::code` meets its contract: four bits at the index. Assumes nothing.
+use mathlib.Core.Path.{refl}
+use borrow.Author.Needs.{needs}
+use Rattle.descriptors.proofs.index.PIIndex.code.Statement.{statement}
+use Rattle.descriptors.proofs.index.PIIndex.code.Tie as tie
+
+mul-result : tie.Need-mul-result
+mul-result c = search needs
+
+cast-result : tie.Need-cast-result
+cast-result c = search needs
+
+shr-result : tie.Need-shr-result
+shr-result c = search needs
+
+cast-result-2 : tie.Need-cast-result-2
+cast-result-2 c = search needs
+
+returns : tie.Need-returns
+returns c = refl
+
+pub code-spec : {M : Type 1} → statement M
+code-spec = tie.close (tie.spec mul-result cast-result shr-result cast-result-2 returns)
