@@ -1,39 +1,27 @@
 // What one leaf asks of the register. Part of the planner. No public function has a `requires`.
 ghost use mathlib.Core.Path.{_≡_};
-ghost use Rattle.plan.specs.Masks.{forbiddenBits, maskPlan, planBy};
-ghost use Rattle.plan.specs.Plan.{refusalOf};
+ghost use Rattle.levels.specs.Masks.{bitsIn};
+ghost use Rattle.plan.specs.Masks.{maskPlan, planBy};
 use accesses::Level;
 use answers::Answer;
 use levels::RangeMask;
+use pass::slot_bits;
 use plan::LeafPlan;
 use records::leaf::LeafRead;
-use records::words::Words;
 use starts::number_of;
-
-// The slot bits R, X, W of rights whose bits are R, W, X.
-const SLOT_ORDER: [u8; 8] = [0, 1, 4, 5, 2, 3, 6, 7];
-
-// The number of a leaf's refusal.
-pub fn refusal(p: LeafPlan) -> u8
-    ensures { λ r. ⌜ r ≡ refusalOf p ⌝ }
-{
-    match p {
-        LeafPlan::Refused(n) => n,
-        LeafPlan::Cut { .. } => 0,
-    }
-}
 
 // The forbidden bits of a level.
 fn forbidden_bits(f: u8, l: Level) -> u8
-    ensures { λ r. ⌜ r ≡ forbiddenBits f l ⌝ }
+    ensures { λ r. ⌜ r ≡ bitsIn f l ⌝ }
 {
     match l {
-        Level::Privileged => (f >> 0) % 2 + (f >> 1) % 2 * 2 + (f >> 2) % 2 * 4,
-        Level::Unprivileged => (f >> 3) % 2 + (f >> 4) % 2 * 2 + (f >> 5) % 2 * 4,
+        Level::Privileged => f % 8,
+        Level::Unprivileged => (f >> 3) % 8,
     }
 }
 
-// A forbidden right is taken from the slot where the base grants it; where no slot takes it away, no register cures the leaf.
+// A forbidden right is taken from the slot where the base grants it; where no slot takes it away, no register cures the leaf. What a slot grants
+// is its bits with X and W exchanged, and so is the slot of some rights.
 fn range_plan(forbidden: u8, l: Level, range: RangeMask) -> LeafPlan
     ensures { λ r. ⌜ r ≡ maskPlan forbidden l range ⌝ }
 {
@@ -41,19 +29,19 @@ fn range_plan(forbidden: u8, l: Level, range: RangeMask) -> LeafPlan
         RangeMask::Refused(n) => LeafPlan::Refused(n),
         RangeMask::Range { place, full, bare } => {
             let f = forbidden_bits(forbidden, l);
-            let i = ((f & full) % 8) as usize;
             LeafPlan::Cut {
                 place,
-                taken: SLOT_ORDER[i],
+                taken: slot_bits(true, f & full),
                 uncured: f & bare != 0,
             }
         }
     }
 }
 
-// 5, then the 6 or 7 that an access of the level meets with 77777777 in place of that level's POR; `base` is the setup's table for stage 1.
-pub fn plan_leaf(q: Words, base: &[u16; 16], l: Level, leaf: &[u8]) -> LeafPlan
-    ensures { λ r. ⌜ r ≡ planBy q (now (base .entry)) l (now (leaf .entry)) ⌝ }
+// 5, then the 6 or 7 that an access of the level meets with 77777777 in place of that level's POR; `w` is the control word, `base`
+// the setup's table for stage 1.
+pub fn plan_leaf(w: u32, base: &[u16; 16], l: Level, leaf: &[u8]) -> LeafPlan
+    ensures { λ r. ⌜ r ≡ planBy w (now (base .entry)) l (now (leaf .entry)) ⌝ }
 {
     let read = records::leaf::read_leaf(leaf);
     let LeafRead::Read(f) = read else {
@@ -66,6 +54,6 @@ pub fn plan_leaf(q: Words, base: &[u16; 16], l: Level, leaf: &[u8]) -> LeafPlan
     range_plan(
         f.forbidden,
         l,
-        range::level_range(q, base, f.stage1, f.stage2, f.limits, l),
+        range::level_range(w, base, f.stage1, f.stage2, f.limits, l),
     )
 }

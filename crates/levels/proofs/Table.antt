@@ -27,9 +27,10 @@ use Rattle.permissions.specs.declared.Mask.the-variants.{Granted, Refused}
 use Rattle.permissions.specs.declared.Rights.{Rights}
 use Rattle.overlays.specs.Overlay.{bitOf}
 use Rattle.levels.specs.Level.{rangeOf}
-use Rattle.levels.specs.Masks.{setupWith, stage1Mask, stage2Mask, rangeMask}
+use Rattle.levels.specs.Masks.{setupWith, stage1Mask, stage2Mask, maskWith, rangeMask, rangeWith}
 use Rattle.levels.specs.Pass.{stage1Pass, stage2Pass}
 use Rattle.levels.specs.Table.{maskWord, maskOf, pairAt, entryAt, BaseTable, directWord, stage1Word, stage1With, fullAndBare, rangeBy}
+use Rattle.levels.specs.declared.RangeMask.the-variants as mask
 use Rattle.levels.proofs.Masks.{base-small, six-small, from-base, stage1-direct, range-masks}
 
 -- a mask is known from its number
@@ -124,9 +125,24 @@ module _ (b : List ℕ) (w p u d t : ℕ) (h : BaseTable w p u b) where
       go true true false seven false a c e f g = direct e ∙ sym (stage1-direct (setupWith w p u) (stage1Of d) (limitsOf t) a c e g)
 
 pub range-by : (q : Words) (b : List ℕ) (d e t : ℕ) (l : Level) → BaseTable (q .control) (q .pir .privileged) (q .pir .unprivileged) b
-    → rangeBy q b d e t l ≡ rangeMask (rangeOf (setupFrom q) (stage1Of d) (stage2Of e) (limitsOf t) l)
+    → rangeBy (q .control) b d e t l ≡ rangeMask (rangeOf (setupFrom q) (stage1Of d) (stage2Of e) (limitsOf t) l)
 unfolding rangeBy
 range-by q b d e t l h =
     ap (λ (x : Mask). fullAndBare (bitOf (controlOf (q .control) .overlay) l) (placeOf (poIndex d)) x (stage2Mask (stage2Pass (bit (q .control) 2) (stage2Of e))) l)
     (with-table b (q .control) (q .pir .privileged) (q .pir .unprivileged) d t h)
     ∙ range-masks q d e t l
+
+place-with : (k : ℕ) (x y : Mask) (j f g : ℕ) → rangeWith k x y ≡ mask.Range j f g → j ≡ k
+place-with k (Granted a) (Granted b) j f g e = cc
+place-with k (Granted a) (Refused n) j f g e = let z : _≡_ {A = ℕ} 0 1 = cc in absurd (omega arith)
+place-with k (Refused n) y j f g e = let z : _≡_ {A = ℕ} 0 1 = cc in absurd (omega arith)
+
+-- a leaf's place is below 8
+pub place-below : (w : ℕ) (b : List ℕ) (d e t : ℕ) (l : Level) (k f g : ℕ) → rangeBy w b d e t l ≡ mask.Range k f g → k < 8
+unfolding rangeBy
+place-below w b d e t l k f g q =
+    let on = bitOf (controlOf w .overlay) l in
+    let x = stage1With b w d t in
+    let y = stage2Mask (stage2Pass (bit w 2) (stage2Of e)) in
+    let p = place-with (placeOf (poIndex d)) (maskWith on x 7 y l) (maskWith on x 0 y l) k f g q in
+    omega arith

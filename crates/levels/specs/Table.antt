@@ -11,7 +11,6 @@ use Rattle.descriptors.specs.Bits.{bit, nibble}
 use Rattle.descriptors.specs.Descriptor.{stage2Of, piIndex, entryOf, poIndex, placeOf}
 use Rattle.setups.specs.Setup.{controlOf}
 use Rattle.accesses.specs.declared.Level.{Level}
-use Rattle.records.specs.declared.words.Words.{Words}
 use Rattle.permissions.specs.Indirect.{codeOf, indirectStep}
 use Rattle.permissions.specs.Masks.{baseMask, descriptorLeft, limitsLeft, descriptorPlace, removed}
 use Rattle.permissions.specs.declared.Mask.{Mask}
@@ -60,8 +59,7 @@ stage1With b w d t = maskOf (stage1Word b w d t)
 abbrev pub fullAndBare : Bool → ℕ → Mask → Mask → Level → RangeMask
 fullAndBare on k x y l = rangeWith k (maskWith on x 7 y l) (maskWith on x 0 y l)
 
--- the same for descriptors d and e and limits t by table b
-unfoldable pub rangeBy : Words → List ℕ → ℕ → ℕ → ℕ → Level → RangeMask
-rangeBy q b d e t l =
-    fullAndBare (bitOf (controlOf (q .control) .overlay) l) (placeOf (poIndex d)) (stage1With b (q .control) d t)
-    (stage2Mask (stage2Pass (bit (q .control) 2) (stage2Of e))) l
+-- the same for control word w, descriptors d and e and limits t by table b
+unfoldable pub rangeBy : ℕ → List ℕ → ℕ → ℕ → ℕ → Level → RangeMask
+rangeBy w b d e t l =
+    fullAndBare (bitOf (controlOf w .overlay) l) (placeOf (poIndex d)) (stage1With b w d t) (stage2Mask (stage2Pass (bit w 2) (stage2Of e))) l

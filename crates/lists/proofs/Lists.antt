@@ -3,9 +3,10 @@ use mathlib.Core.Path.{_≡_, refl, sym, ap, _∙_}
 use mathlib.Core.List.{List, [], _∷_}
 use mathlib.Core.Bool.{true, cond}
 use mathlib.Core.Logic.{⊎-elim}
-use Prim.Native.Nat.{ℕ, _*_, _/_, _≤_}
+use Prim.Native.Nat.{ℕ, _*_, _/_, _%_, _≤_}
 use native.Mathlib.Omega.{arith}
 use lib.ListN.{length}
+use lib.Dec.{eqb, leb}
 use borrow.Author.Tests.{leb-true}
 use types.Run.{OneOf}
 use denote.Enum.Declared.{tagOf}
@@ -62,6 +63,5 @@ pub record Room (ls o : List ℕ) : Type 0 where
 
 pub room : (ls o : List ℕ) → fits ls o ≡ true → Room ls o
 room ls o e =
-    let h = both-hold _ _ e in
-    let g = both-hold _ _ (h .1) in
+    let g = both-hold (leb (length ls / 18) 2048) (leb (length ls / 18) (length o)) (both-hold (eqb (length ls % 18) 0) _ e .1) in
     record { whole = omega arith; few = leb-true _ _ (g .0); wide = leb-true _ _ (g .1) }

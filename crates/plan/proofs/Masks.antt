@@ -1,34 +1,43 @@
 -- A leaf's plan from rights as bits is its plan. Assumes nothing.
-use mathlib.Core.Path.{_≡_, refl, ap, ap₂, _∙_}
-use mathlib.Core.Bool.{Bool, false, not}
+use mathlib.Core.Path.{_≡_, refl, ap, ap₂, _∙_, fun-ext}
+use mathlib.Core.Bool.{Bool, true, false, not}
 use mathlib.Core.List.{List, [], _∷_}
-use Prim.Native.Nat.{ℕ, _+_, _*_, _/_, _%_, _^_}
+use Prim.Native.Nat.{ℕ, _+_, _*_, _/_, _%_}
+use native.Mathlib.Nat.{div-div-eq-div-mul}
+use native.Mathlib.Omega.{arith}
 use lib.Bits.{bitAnd}
 use lib.Dec.{eqb}
-use lib.ListN.{getD}
+use lib.ListN.{length, getD}
 use Rattle.descriptors.specs.Descriptor.{stage1Of, stage2Of, limitsOf}
 use Rattle.records.proofs.Cases.{each, each-digit}
 use Rattle.records.specs.Leaf.{readLeaf}
 use Rattle.setups.specs.Setup.{setupFrom}
 use Rattle.accesses.specs.declared.Level.{Level}
 use Rattle.accesses.specs.declared.Level.the-variants.{Privileged, Unprivileged}
+use Rattle.records.specs.declared.leaf.Leaf.{Leaf}
 use Rattle.records.specs.declared.leaf.LeafRead.{LeafRead}
 use Rattle.records.specs.declared.leaf.LeafRead.the-variants as leaf
 use Rattle.records.specs.declared.words.Words.{Words}
 use Rattle.checks.specs.Checks.{leafCheck}
+use Rattle.answers.specs.declared.Answer.{Answer}
+use Rattle.answers.specs.declared.Answer.the-variants as answer
 use Rattle.stages.specs.LevelRights.{three}
 use Rattle.stages.specs.declared.LevelRights.{LevelRights}
-use Rattle.levels.proofs.Masks.{and-bits, any-bits}
-use Rattle.levels.proofs.Table.{range-by}
+use Rattle.levels.proofs.Masks.{and-bits, any-bits, slot-low}
+use Rattle.levels.proofs.Table.{range-by, place-below}
 use Rattle.levels.specs.Level.{rangeOf}
-use Rattle.levels.specs.Masks.{levelBits, rangeMask}
-use Rattle.levels.specs.Table.{BaseTable}
+use Rattle.levels.specs.Masks.{levelBits, bitsIn, grants, rangeMask}
+use Rattle.levels.specs.Table.{BaseTable, rangeBy}
 use Rattle.levels.specs.declared.LevelRange.{LevelRange}
 use Rattle.levels.specs.declared.LevelRange.the-variants as range
-use Rattle.plan.specs.Masks.{forbiddenBits, slotOrder, maskPlan, readPlan, planBy}
-use Rattle.plan.specs.Plan.{after, forbiddenRights, common, rangePlan, leafPlan, leafPlanOf}
+use Rattle.levels.specs.declared.RangeMask.{RangeMask}
+use Rattle.levels.specs.declared.RangeMask.the-variants as mask
+use Rattle.plan.specs.Masks.{maskPlan, readPlan, planBy, plansBy}
+use Rattle.plan.specs.Plan.{after, forbiddenRights, common, rangePlan, leafPlan, leafPlanOf, leafAt, inOrder, planLeaves}
 use Rattle.plan.specs.Register.{slotNumber}
+use Rattle.plan.specs.declared.LeafPlan.{LeafPlan}
 use Rattle.plan.specs.declared.LeafPlan.the-variants.{Cut, Refused}
+use Rattle.plan.proofs.Cuts.{Low}
 
 -- the forbidden bits of a level: digits 0 to 2
 abbrev number : List ℕ → ℕ
@@ -37,27 +46,35 @@ number m = getD m 0 0 + getD m 1 0 * 2 + getD m 2 0 * 4
 abbrev rights : List ℕ → ℕ
 rights m = levelBits (three (eqb (getD m 0 0) 1) (eqb (getD m 1 0) 1) (eqb (getD m 2 0) 1))
 
-forbidden-bits : (f : ℕ) (l : Level) → forbiddenBits f l ≡ levelBits (forbiddenRights f l)
-forbidden-bits f Privileged = each-digit (f / 2 ^ 0 ∷ f / 2 ^ 1 ∷ f / 2 ^ 2 ∷ []) number rights refl
-forbidden-bits f Unprivileged = each-digit (f / 2 ^ 3 ∷ f / 2 ^ 4 ∷ f / 2 ^ 5 ∷ []) number rights refl
+three-digits : (n : ℕ) → n % 8 ≡ number (n % 2 ∷ n / 2 % 2 ∷ n / 4 % 2 ∷ [])
+three-digits n = omega (arith, div-div-eq-div-mul n 2 2, div-div-eq-div-mul n 4 2)
+
+forbidden-bits : (f : ℕ) (l : Level) → bitsIn f l ≡ levelBits (forbiddenRights f l)
+forbidden-bits f Privileged =
+    let e : f % 8 ≡ number (f / 1 % 2 ∷ f / 2 % 2 ∷ f / 4 % 2 ∷ []) = omega (arith, three-digits f) in
+    e ∙ each-digit (f / 1 ∷ f / 2 ∷ f / 4 ∷ []) number rights refl
+forbidden-bits f Unprivileged =
+    three-digits (f / 8)
+    ∙ ap₂ (λ (a b : ℕ). number (f / 8 % 2 ∷ a % 2 ∷ b % 2 ∷ [])) (div-div-eq-div-mul f 8 2) (div-div-eq-div-mul f 8 4)
+    ∙ each-digit (f / 8 ∷ f / 16 ∷ f / 32 ∷ []) number rights refl
 
 -- the slot that has the bits of some rights
-slot-order : (a : LevelRights) → getD slotOrder (levelBits a % 8) 0 ≡ slotNumber a
+slot-order : (a : LevelRights) → grants true (levelBits a) ≡ slotNumber a
 slot-order a =
-    each (a .read ∷ a .write ∷ a .execute ∷ []) (λ (m : List Bool). getD slotOrder (levelBits (three (getD m 0 false) (getD m 1 false) (getD m 2 false)) % 8) 0)
+    each (a .read ∷ a .write ∷ a .execute ∷ []) (λ (m : List Bool). grants true (levelBits (three (getD m 0 false) (getD m 1 false) (getD m 2 false))))
     (λ (m : List Bool). slotNumber (three (getD m 0 false) (getD m 1 false) (getD m 2 false))) refl
 
-in-common : (f : ℕ) (l : Level) (a : LevelRights) → bitAnd (forbiddenBits f l) (levelBits a) ≡ levelBits (common (forbiddenRights f l) a)
+in-common : (f : ℕ) (l : Level) (a : LevelRights) → bitAnd (bitsIn f l) (levelBits a) ≡ levelBits (common (forbiddenRights f l) a)
 in-common f l a = ap (λ (n : ℕ). bitAnd n (levelBits a)) (forbidden-bits f l) ∙ and-bits (forbiddenRights f l) a
 
 mask-plan : (f : ℕ) (l : Level) (x : LevelRange) → maskPlan f l (rangeMask x) ≡ rangePlan f l x
 mask-plan f l (range.Range k full bare) =
-    ap₂ (Cut k) (ap (λ (n : ℕ). getD slotOrder (n % 8) 0) (in-common f l full) ∙ slot-order (common (forbiddenRights f l) full))
+    ap₂ (Cut k) (ap (grants true) (in-common f l full) ∙ slot-order (common (forbiddenRights f l) full))
     (ap (λ (n : ℕ). not (eqb n 0)) (in-common f l bare) ∙ any-bits (common (forbiddenRights f l) bare))
 mask-plan f l (range.Refused n) = refl
 
 module _ (q : Words) (b : List ℕ) (l : Level) (h : BaseTable (q .control) (q .pir .privileged) (q .pir .unprivileged) b) where
-  read-plan : (x : LeafRead) → readPlan q b l x ≡ leafPlan (setupFrom q) l x
+  read-plan : (x : LeafRead) → readPlan (q .control) b l x ≡ leafPlan (setupFrom q) l x
   read-plan (leaf.Refused n) = refl
   read-plan (leaf.Read f) =
       ap (after (leafCheck f) Refused)
@@ -65,6 +82,28 @@ module _ (q : Words) (b : List ℕ) (l : Level) (h : BaseTable (q .control) (q .
       ∙ mask-plan (f .forbidden) l (rangeOf (setupFrom q) (stage1Of (f .stage1)) (stage2Of (f .stage2)) (limitsOf (f .limits)) l))
 
   -- by a setup's table a leaf's plan is its plan
-  pub plan-by : (bytes : List ℕ) → planBy q b l bytes ≡ leafPlanOf (setupFrom q) l bytes
+  pub plan-by : (bytes : List ℕ) → planBy (q .control) b l bytes ≡ leafPlanOf (setupFrom q) l bytes
   unfolding planBy leafPlanOf
   plan-by bytes = read-plan (readLeaf bytes)
+
+  -- and so are the plans of a list's leaves, in order
+  pub leaves-by : (ls : List ℕ) → inOrder (plansBy (q .control) b l ls) (length ls / 18) ≡ planLeaves (setupFrom q) l ls
+  unfolding planLeaves
+  leaves-by ls = ap (λ (P : ℕ → LeafPlan). inOrder P (length ls / 18)) (fun-ext (λ i. plan-by (leafAt ls i)))
+
+-- by any table a leaf's place is below 8, and it takes bits of a slot
+pub by-low : (w : ℕ) (b : List ℕ) (l : Level) (bytes : List ℕ) → Low (planBy w b l bytes)
+unfolding planBy
+by-low w b l bytes = go (readLeaf bytes)
+  where
+    checked : (f : Leaf) (a : Answer) (r : RangeMask) → rangeBy w b (f .stage1) (f .stage2) (f .limits) l ≡ r
+        → Low (after a Refused (maskPlan (f .forbidden) l r))
+    checked f answer.Permitted (mask.Range k full bare) e =
+        (place-below w b (f .stage1) (f .stage2) (f .limits) l k full bare e, slot-low (bitAnd (bitsIn (f .forbidden) l) full))
+    checked f answer.Permitted (mask.Refused n) e = tt
+    checked f (answer.Fault x) r e = tt
+    checked f (answer.Refused n) r e = tt
+
+    go : (x : LeafRead) → Low (readPlan w b l x)
+    go (leaf.Refused n) = tt
+    go (leaf.Read f) = checked f (leafCheck f) (rangeBy w b (f .stage1) (f .stage2) (f .limits) l) refl

@@ -105,11 +105,6 @@ leafAt ls i = take 18 (drop (i * 18) ls)
 abbrev pub plansOf : Setup → Level → List ℕ → ℕ → LeafPlan
 plansOf s l ls i = leafPlanOf s l (leafAt ls i)
 
--- the number of a leaf's refusal
-abbrev pub refusalOf : LeafPlan → ℕ
-refusalOf (plan.Cut k t u) = 0
-refusalOf (plan.Refused n) = n
-
 -- a leaf's refusal, or what is answered where it has none
 abbrev pub orRefused : LeafPlan → ℕ → Plan → Plan
 orRefused (plan.Cut k t u) i p = p
@@ -150,9 +145,12 @@ registerFor P n = packFrom (cuts P n 0 (replicate 8 7)) 8 0
 unfoldable pub settled : (ℕ → LeafPlan) → ℕ → Plan
 settled P n = cond (ltb (firstUncured P n 0) n) (Refused 10 (firstUncured P n 0)) (Register (registerFor P n))
 
--- all leaves' 5, 6 and 7 come before 10
+-- n leaves: all their 5, 6 and 7 come before 10
+abbrev pub inOrder : (ℕ → LeafPlan) → ℕ → Plan
+inOrder P n = refusedFrom P (settled P n) n 0
+
 unfoldable pub planLeaves : Setup → Level → List ℕ → Plan
-planLeaves s l ls = refusedFrom (plansOf s l ls) (settled (plansOf s l ls) (length ls / 18)) (length ls / 18) 0
+planLeaves s l ls = inOrder (plansOf s l ls) (length ls / 18)
 
 -- a refusal before the leaves has leaf 0
 abbrev pub planFrom : Setup → List ℕ → Start → Plan

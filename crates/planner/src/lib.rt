@@ -4,11 +4,10 @@
 // `plan_level` is the one public function and has no `requires`. Of the rights layer the planner uses the contracts of `checks`, `base_table` and
 // `range::level_range`, and the laws of `levels`: its proofs/Ranges, proofs/Levels and proofs/Table.
 ghost use mathlib.Core.Path.{_≡_};
-ghost use Prim.Native.Nat.{_/_, _%_, _≤_};
+ghost use Prim.Native.Nat.{_/_};
 ghost use lib.ListN.{length};
-ghost use Rattle.setups.specs.Setup.{setupFrom};
-ghost use Rattle.levels.specs.Table.{BaseTable};
-ghost use Rattle.plan.specs.Plan.{planLeaves, planOf, valuesOf};
+ghost use Rattle.plan.specs.Masks.{plansBy};
+ghost use Rattle.plan.specs.Plan.{inOrder, planOf, valuesOf};
 ghost use Rattle.plan.specs.Demand3.{Demanded};
 use crate::masks::cut_mask;
 use crate::masks::first_of;
@@ -16,21 +15,17 @@ use crate::masks::pack;
 use accesses::Level;
 use base_table::base_table;
 use cuts::plan_leaf;
-use cuts::refusal;
 use plan::LeafPlan;
 use plan::Plan;
 use plan::Start;
-use records::words::Words;
 use records::words::WordsRead;
 use starts::begin;
 
 mod masks;
 
-// One pass over the list, where `base` is the setup's table for stage 1: each leaf's 5, 6 or 7, then 10, then the register.
-fn plan_leaves(q: Words, base: &[u16; 16], l: Level, leaves: &[u8]) -> Plan
-    requires { ⌜ BaseTable (q .control) (q .pir .privileged) (q .pir .unprivileged) (now base) ⌝ }
-    requires { ⌜ (length (now leaves) % 18 ≡ 0) × (length (now leaves) / 18 ≤ 2048) ⌝ }
-    ensures { λ r. ⌜ r ≡ planLeaves (setupFrom q) l (now (leaves .entry)) ⌝ }
+// One pass over the list, where `w` is the control word and `base` the setup's table for stage 1: each leaf's 5, 6 or 7, then 10, then the register.
+fn plan_leaves(w: u32, base: &[u16; 16], l: Level, leaves: &[u8]) -> Plan
+    ensures { λ r. ⌜ r ≡ inOrder (plansBy w (now (base .entry)) l (now (leaves .entry))) (length (now (leaves .entry)) / 18) ⌝ }
 {
     let n = leaves.len() / 18;
     let mut masks = [7u8; 8];
@@ -38,20 +33,19 @@ fn plan_leaves(q: Words, base: &[u16; 16], l: Level, leaves: &[u8]) -> Plan
     let mut i = 0;
     while i < n {
         let a = i * 18;
-        let plan = plan_leaf(q, base, l, &leaves[a..a + 18]);
-        let LeafPlan::Cut {
-            place,
-            taken,
-            uncured,
-        } = plan
-        else {
-            return Plan::Refused {
-                number: refusal(plan),
-                leaf: i,
-            };
-        };
-        masks[place] = cut_mask(masks[place], taken);
-        first = first_of(first, n, i, uncured);
+        match plan_leaf(w, base, l, &leaves[a..a + 18]) {
+            LeafPlan::Refused(number) => {
+                return Plan::Refused { number, leaf: i };
+            }
+            LeafPlan::Cut {
+                place,
+                taken,
+                uncured,
+            } => {
+                masks[place] = cut_mask(masks[place], taken);
+                first = first_of(first, n, i, uncured);
+            }
+        }
         i += 1;
     }
     if first < n {
@@ -79,7 +73,7 @@ pub fn plan_level(setup: &[u8], level: u64, leaves: &[u8]) -> Plan
         Start::Refused(number) => Plan::Refused { number, leaf: 0 },
         Start::Leaves(l) => {
             let base = base_table(q.control, q.pir.privileged, q.pir.unprivileged);
-            plan_leaves(q, &base, l, leaves)
+            plan_leaves(q.control, &base, l, leaves)
         }
     }
 }

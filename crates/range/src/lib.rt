@@ -9,7 +9,6 @@ use descriptors::index::POIndex;
 use levels::RangeMask;
 use pass::level_mask;
 use permissions::Mask;
-use records::words::Words;
 
 fn range_with(place: usize, full: Mask, bare: Mask) -> RangeMask
     ensures { λ x. ⌜ x ≡ rangeWith place full bare ⌝ }
@@ -37,12 +36,11 @@ fn overlay_on(w: u32, l: Level) -> bool
     }
 }
 
-// The refusal that an access of the level meets with 77777777 in place of that level's POR, or the range of its rights: `base` is the setup's
-// table for stage 1, `d` and `e` are the descriptors, `t` is the limits.
-pub fn level_range(q: Words, base: &[u16; 16], d: u64, e: u64, t: u8, l: Level) -> RangeMask
-    ensures { λ x. ⌜ x ≡ rangeBy q (now (base .entry)) d e t l ⌝ }
+// The refusal that an access of the level meets with 77777777 in place of that level's POR, or the range of its rights: `w` is the control word,
+// `base` the setup's table for stage 1, `d` and `e` are the descriptors, `t` is the limits.
+pub fn level_range(w: u32, base: &[u16; 16], d: u64, e: u64, t: u8, l: Level) -> RangeMask
+    ensures { λ x. ⌜ x ≡ rangeBy w (now (base .entry)) d e t l ⌝ }
 {
-    let w = q.control;
     let on = overlay_on(w, l);
     let first = stage1_word::mask_of(stage1_word::stage1_word(base, w, d, t));
     let second = pass::stage2_mask(w, e);

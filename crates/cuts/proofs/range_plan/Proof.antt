@@ -12,17 +12,14 @@ enum-known-range-2 c = search needs
 forbidden-bits-requires : tie.Need-forbidden-bits-requires
 forbidden-bits-requires c κs = search needs
 
-cast-i : tie.Need-cast-i
-cast-i c = search needs
-
-array-read-t11 : tie.Need-array-read-t11
-array-read-t11 c = search needs
+slot-bits-requires : tie.Need-slot-bits-requires
+slot-bits-requires c κs = search needs
 
 returns : tie.Need-returns
 returns c = rw (c .before .range .given .1)
 
 returns-2 : tie.Need-returns-2
-returns-2 c = rw (c .before .before .range2 .given .1, c .forbidden-bits .ensures)
+returns-2 c = rw (c .before .before .before .range2 .given .1, ← (c .before .forbidden-bits .ensures), ← (c .slot-bits .ensures .0))
 
 pub range-plan-spec : {M : Type 1} → statement M
 range-plan-spec =
@@ -31,7 +28,6 @@ range-plan-spec =
     enum-known-range
     enum-known-range-2
     forbidden-bits-requires
-    cast-i
-    array-read-t11
+    slot-bits-requires
     returns
     returns-2)

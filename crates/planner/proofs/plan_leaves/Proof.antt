@@ -10,34 +10,33 @@ use native.Mathlib.Nat.{le-antisymm, sub-zero, add-sub-cancel-left}
 use lib.Dec.{eqb}
 use lib.ListN.{length, getD, take, drop, set, replicate}
 use denote.Ref.{now}
-use Rattle.setups.specs.Setup.{setupFrom}
-use Rattle.plan.specs.Plan.{leafPlanOf, plansOf, refusalOf, orRefused, cutBy, uncured, refusedFrom, firstUncured, firstOf, cuts, settled, planLeaves}
-use Rattle.plan.specs.declared.Plan.the-variants.{Register, Refused}
+use Rattle.plan.specs.Masks.{planBy, plansBy}
+use Rattle.plan.specs.Plan.{orRefused, cutBy, uncured, refusedFrom, firstUncured, firstOf, cuts, settled, inOrder}
+use Rattle.plan.specs.declared.Plan.the-variants.{Register}
 use Rattle.plan.specs.declared.LeafPlan.{LeafPlan}
 use Rattle.plan.specs.declared.LeafPlan.the-variants.{Cut}
 use Rattle.plan.proofs.Cuts.{Low, cuts-masks, sevens}
-use Rattle.plan.proofs.Leaves.{leaf-low}
-use Rattle.plan.proofs.Masks.{plan-by}
+use Rattle.plan.proofs.Masks.{by-low}
 use Rattle.plan.proofs.Turns.{refused-go, cuts-go, first-go, refused-done, cuts-done, first-done, first-starts, uncured-settles, cured-settles}
 use Rattle.planner.proofs.plan_leaves.Statement.{statement}
 use Rattle.planner.proofs.plan_leaves.Tie as tie
 
 abbrev Inv-loop : tie.InvT-loop
-Inv-loop q base l leaves n masks₀ first₀ i₀ masks first i =
+Inv-loop w base l leaves n masks₀ first₀ i₀ masks first i =
     (i ≤ n)
-    × (planLeaves (setupFrom q) l leaves ≡ refusedFrom (plansOf (setupFrom q) l leaves) (settled (plansOf (setupFrom q) l leaves) n) (n - i) i)
-    × (cuts (plansOf (setupFrom q) l leaves) n 0 (replicate 8 7) ≡ cuts (plansOf (setupFrom q) l leaves) (n - i) i masks)
-    × (firstUncured (plansOf (setupFrom q) l leaves) n 0 ≡ cond (eqb first n) (firstUncured (plansOf (setupFrom q) l leaves) (n - i) i) first)
+    × (inOrder (plansBy w base l leaves) n ≡ refusedFrom (plansBy w base l leaves) (settled (plansBy w base l leaves) n) (n - i) i)
+    × (cuts (plansBy w base l leaves) n 0 (replicate 8 7) ≡ cuts (plansBy w base l leaves) (n - i) i masks)
+    × (firstUncured (plansBy w base l leaves) n 0 ≡ cond (eqb first n) (firstUncured (plansBy w base l leaves) (n - i) i) first)
 
 abbrev μ-loop : tie.MeasureT-loop
-μ-loop q base l leaves n masks₀ first₀ i₀ masks first i = n - i
+μ-loop w base l leaves n masks₀ first₀ i₀ masks first i = n - i
 
 -- the list, its leaves' plans and their number, at the loop
 abbrev ls : tie.At-loop Inv-loop μ-loop → List ℕ
 ls c = now (c .before .before .args .leaves)
 
 abbrev P : tie.At-loop Inv-loop μ-loop → ℕ → LeafPlan
-P c = plansOf (setupFrom (c .before .before .args .q)) (c .before .before .args .l) (ls c)
+P c = let a = c .before .before .args in plansBy (a .w) (now (a .base)) (a .l) (ls c)
 
 abbrev n : tie.At-loop Inv-loop μ-loop → ℕ
 n c = length (ls c) / 18
@@ -47,18 +46,15 @@ planned : (c : tie.After-plan-leaf Inv-loop μ-loop) → c .plan-leaf .result �
 planned c =
     let a = c .before .before .before .before .before .args in
     let i = c .before .before .before .loop .i in
-    c .plan-leaf .ensures ∙ plan-by (a .q) _ (a .l) (c .before .before .before .before .before .pre .0) _ ∙ ap (λ (k : ℕ). leafPlanOf (setupFrom (a .q)) (a .l) (take k (drop (i * 18) (now (a .leaves))))) (add-sub-cancel-left (i * 18) 18)
+    c .plan-leaf .ensures ∙ ap (λ (k : ℕ). planBy (a .w) (now (a .base)) (a .l) (take k (drop (i * 18) (now (a .leaves))))) (add-sub-cancel-left (i * 18) 18)
 
 -- leaf i's plan where it is a cut
-cut : (c : tie.After-plan Inv-loop μ-loop) → P (c .before .before .before .before .before) (c .before .before .before .before .before .loop .i) ≡ Cut (c .plan .given .0 .0) (c .plan .given .0 .1 .0) (c .plan .given .0 .1 .1 .0)
-cut c = sym (planned (c .before .before)) ∙ c .plan .given .1
+cut : (c : tie.After-place Inv-loop μ-loop) → P (c .before .before .before .before .before) (c .before .before .before .before .before .loop .i) ≡ Cut (c .place .given .0 .0) (c .place .given .0 .1 .0) (c .place .given .0 .1 .1 .0)
+cut c = sym (planned (c .before .before)) ∙ c .place .given .1
 
 -- its place is below 8
-low : (c : tie.After-plan Inv-loop μ-loop) → c .plan .given .0 .0 < 8
-low c =
-    let g = c .before .before .before .before .before in
-    let a = g .before .before .args in
-    subst Low (cut c) (leaf-low (setupFrom (a .q)) (a .l) (take 18 (drop (g .loop .i * 18) (ls g)))) .0
+low : (c : tie.After-place Inv-loop μ-loop) → c .place .given .0 .0 < 8
+low c = subst Low (cut c) (by-low _ _ _ _) .0
 
 -- after the loop
 ended : (c : tie.After-loop Inv-loop μ-loop) → c .before .loop .i ≡ n (c .before)
@@ -70,11 +66,10 @@ last-masks c = c .before .loop .inv .2 ∙ cuts-done _ _ _ _ (c .loop-test .left
 last-first : (c : tie.After-loop Inv-loop μ-loop) → firstUncured (P (c .before)) (n (c .before)) 0 ≡ c .before .loop .first
 last-first c = c .before .loop .inv .3 ∙ first-done _ _ _ _ (ended c)
 
-last-plan : (c : tie.After-loop Inv-loop μ-loop) → planLeaves (setupFrom (c .before .before .before .args .q)) (c .before .before .before .args .l) (ls (c .before)) ≡ settled (P (c .before)) (n (c .before))
+last-plan : (c : tie.After-loop Inv-loop μ-loop) → inOrder (P (c .before)) (n (c .before)) ≡ settled (P (c .before)) (n (c .before))
 last-plan c = c .before .loop .inv .1 ∙ refused-done _ _ _ _ (c .loop-test .left)
 
 loop-holds : tie.Need-loop-holds Inv-loop μ-loop
-unfolding planLeaves
 loop-holds c = (omega arith, simp sub-zero, simp sub-zero, first-starts _ _)
 
 mul-a : tie.Need-mul-a Inv-loop μ-loop
@@ -95,21 +90,18 @@ part-plan-leaf-end c = search needs
 plan-leaf-requires : tie.Need-plan-leaf-requires Inv-loop μ-loop
 plan-leaf-requires c κs = search needs
 
-enum-known-plan : tie.Need-enum-known-plan Inv-loop μ-loop
-enum-known-plan c = search needs
-
-enum-told : tie.Need-enum-told Inv-loop μ-loop
-enum-told c = search needs
-
-refusal-requires : tie.Need-refusal-requires Inv-loop μ-loop
-refusal-requires c κs = search needs
+enum-known-number : tie.Need-enum-known-number Inv-loop μ-loop
+enum-known-number c = search needs
 
 returns : tie.Need-returns Inv-loop μ-loop
 returns c = let v = c .before .before .before in
-    let g = v .before .before .before in
-    let e = c .before .enum-told .given .1 in
-    ap (λ (k : ℕ). Refused k (g .loop .i)) (c .refusal .ensures ∙ ap refusalOf e)
-    ∙ sym (g .loop .inv .1 ∙ refused-go (P g) (n g) (g .loop .i) (v .before .before .loop-test .taken) _ ∙ ap (λ (p : LeafPlan). orRefused p (g .loop .i) (refusedFrom (P g) (settled (P g) (n g)) (n g - (g .loop .i + 1)) (g .loop .i + 1))) (sym (planned v) ∙ e))
+    let t = v .before .before in
+    let g = t .before in
+    let i = g .loop .i in
+    sym (g .loop .inv .1 ∙ refused-go (P g) (n g) i (t .loop-test .taken) _ ∙ ap (λ (p : LeafPlan). orRefused p i (refusedFrom (P g) (settled (P g) (n g)) (n g - (i + 1)) (i + 1))) (sym (planned v) ∙ c .before .number .given .1))
+
+enum-known-place : tie.Need-enum-known-place Inv-loop μ-loop
+enum-known-place c = search needs
 
 array-read-cut-mask : tie.Need-array-read-cut-mask Inv-loop μ-loop
 array-read-cut-mask c = low (c .before)
@@ -139,7 +131,7 @@ loop-again c = let x = c .before .before .before in
     let e = cut x in (
       omega arith,
       l .inv .1 ∙ refused-go (P g) (n g) i h _ ∙ ap (λ (p : LeafPlan). orRefused p i (refusedFrom (P g) (settled (P g) (n g)) (n g - (i + 1)) (i + 1))) e,
-      l .inv .2 ∙ cuts-go (P g) (n g) i h (l .masks) ∙ ap (λ (p : LeafPlan). cuts (P g) (n g - (i + 1)) (i + 1) (cutBy p (l .masks))) e ∙ ap (λ (m : ℕ). cuts (P g) (n g - (i + 1)) (i + 1) (set (l .masks) (x .plan .given .0 .0) m)) (sym (c .before .cut-mask .ensures)),
+      l .inv .2 ∙ cuts-go (P g) (n g) i h (l .masks) ∙ ap (λ (p : LeafPlan). cuts (P g) (n g - (i + 1)) (i + 1) (cutBy p (l .masks))) e ∙ ap (λ (m : ℕ). cuts (P g) (n g - (i + 1)) (i + 1) (set (l .masks) (x .place .given .0 .0) m)) (sym (c .before .cut-mask .ensures)),
       l .inv .3 ∙ first-go (P g) (n g) i h (l .first) ∙ ap (λ (p : LeafPlan). cond (eqb (firstOf (l .first) (n g) i (uncured p)) (n g)) (firstUncured (P g) (n g - (i + 1)) (i + 1)) (firstOf (l .first) (n g) i (uncured p))) e ∙ ap (λ (z : ℕ). cond (eqb z (n g)) (firstUncured (P g) (n g - (i + 1)) (i + 1)) z) (sym (c .first-of .ensures)),
     )
 
@@ -148,8 +140,7 @@ returns-2 c = sym (last-plan (c .before) ∙ uncured-settles _ _ _ (last-first (
 
 pack-requires : tie.Need-pack-requires Inv-loop μ-loop
 pack-requires c κs = let e = c .before in
-    let a = e .before .before .before .args in
-    subst (λ (ms : List ℕ). (s : ℕ) → getD ms s 0 < 8) (last-masks e) (cuts-masks (P (e .before)) (λ i. leaf-low (setupFrom (a .q)) (a .l) (take 18 (drop (i * 18) (ls (e .before))))) _ _ _ sevens .small)
+    subst (λ (ms : List ℕ). (s : ℕ) → getD ms s 0 < 8) (last-masks e) (cuts-masks (P (e .before)) (λ i. by-low _ _ _ _) _ _ _ sevens .small)
 
 returns-3 : tie.Need-returns-3 Inv-loop μ-loop
 returns-3 c = let e = c .before .before in
@@ -168,10 +159,9 @@ plan-leaves-spec =
     part-plan-leaf-start
     part-plan-leaf-end
     plan-leaf-requires
-    enum-known-plan
-    enum-told
-    refusal-requires
+    enum-known-number
     returns
+    enum-known-place
     array-read-cut-mask
     cut-mask-requires
     array-write-masks

@@ -13,7 +13,7 @@ use Rattle.plan.specs.Demand3.{Demanded}
 use Rattle.plan.specs.Plan.{startOf, planFrom, planSetup, planOf, valuesOf}
 use Rattle.plan.specs.declared.Plan.{Plan}
 use Rattle.plan.specs.declared.Start.{Start}
-use Rattle.plan.proofs.Starts.{fits}
+use Rattle.plan.proofs.Masks.{leaves-by}
 use Rattle.plan.proofs.Theorem.{demand3}
 use borrow.Author.Needs.{needs}
 use Rattle.planner.proofs.plan_level.Statement.{statement}
@@ -61,13 +61,13 @@ base-table-requires : tie.Need-base-table-requires
 base-table-requires c κs = search needs
 
 plan-leaves-requires : tie.Need-plan-leaves-requires
-plan-leaves-requires c κs = (c .before .base-table .ensures, fits _ _ _ _ (sym (c .before .before .before .before .before .begin .ensures) ∙ c .before .before .before .l .given .1))
+plan-leaves-requires c κs = search needs
 
 returns-2 : tie.Need-returns-2
 returns-2 c = begun _ _ _ _ _ _ (sym (c .before .before .before .before .before .before .before .read-words .ensures) ∙ c .before .before .before .before .before .q .given .1) (sym (c .before .before .before .begin .ensures) ∙ c .before .number .given .1) refl
 
 returns-3 : tie.Need-returns-3
-returns-3 c = begun _ _ _ _ _ _ (sym (c .before .before .before .before .before .before .before .before .before .before .read-words .ensures) ∙ c .before .before .before .before .before .before .before .before .q .given .1) (sym (c .before .before .before .before .before .before .begin .ensures) ∙ c .before .before .before .before .l .given .1) (c .plan-leaves .ensures)
+returns-3 c = begun _ _ _ _ _ _ (sym (c .before .before .before .before .before .before .before .before .before .before .read-words .ensures) ∙ c .before .before .before .before .before .before .before .before .q .given .1) (sym (c .before .before .before .before .before .before .begin .ensures) ∙ c .before .before .before .before .l .given .1) (c .plan-leaves .ensures ∙ leaves-by _ _ _ (c .before .before .base-table .ensures) _)
 
 pub plan-level-spec : {M : Type 1} → statement M
 plan-level-spec =
