@@ -22,6 +22,12 @@ faultUnless ok s k = cond ok Permitted (faultOf s k)
 abbrev pub refuseIf : Bool → ℕ → Answer
 refuseIf bad n = cond bad (Refused n) Permitted
 
+-- a refusal's number; 0 for what is none
+abbrev pub numberOf : Answer → ℕ
+numberOf Permitted = 0
+numberOf (Fault f) = 0
+numberOf (Refused n) = n
+
 -- an access is permitted by the answer
 abbrev pub permitted : Answer → Bool
 permitted Permitted = true

@@ -1,6 +1,6 @@
 // Answers of the rights layer (document 01, 'Numbers for no'), and the first steps of both stages. No public function has a `requires`.
 ghost use mathlib.Core.Path.{_≡_};
-ghost use Rattle.answers.specs.Answers.{faultUnless, refuseIf, descriptorAnswer};
+ghost use Rattle.answers.specs.Answers.{faultUnless, refuseIf, numberOf, descriptorAnswer};
 
 pub enum Kind {
     Translation,
@@ -38,6 +38,17 @@ pub fn refuse_if(bad: bool, number: u8) -> Answer
         return Answer::Refused(number);
     }
     Answer::Permitted
+}
+
+// The number of a refusal.
+pub fn number_of(a: Answer) -> u8
+    ensures { λ r. ⌜ r ≡ numberOf a ⌝ }
+{
+    match a {
+        Answer::Refused(n) => n,
+        Answer::Fault(_) => 0,
+        Answer::Permitted => 0,
+    }
 }
 
 // The first steps of a stage.

@@ -4,11 +4,11 @@ ghost use Rattle.levels.specs.Masks.{bitsIn};
 ghost use Rattle.plan.specs.Masks.{maskPlan, planBy};
 use accesses::Level;
 use answers::Answer;
+use answers::number_of;
 use levels::RangeMask;
 use pass::slot_bits;
 use plan::LeafPlan;
 use records::leaf::LeafRead;
-use starts::number_of;
 
 // The forbidden bits of a level.
 fn forbidden_bits(f: u8, l: Level) -> u8

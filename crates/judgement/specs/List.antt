@@ -63,12 +63,6 @@ unfoldable pub leavesOf : Setup → List ℕ → List ℕ → Result
 leavesOf s ls o =
     cond (fits ls o) (finish (walk (λ (i : ℕ). leafRights s (leafAt ls i)) 0 (length ls / 18)) (length ls / 18) o) (refuse 11 0 o)
 
--- a refusal's number; 0 for what is none
-abbrev pub numberOf : Answer → ℕ
-numberOf answer.Permitted = 0
-numberOf (answer.Fault f) = 0
-numberOf (answer.Refused n) = n
-
 -- 1, 2, 3
 abbrev pub afterCheck : Answer → Result → List ℕ → Result
 afterCheck answer.Permitted r o = r

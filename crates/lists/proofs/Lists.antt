@@ -15,6 +15,7 @@ use Rattle.setups.specs.Setup.{readSetup}
 use Rattle.setups.specs.declared.Setup.{Setup}
 use Rattle.setups.specs.declared.SetupRead.{SetupRead}
 use Rattle.checks.specs.Checks.{setupCheck}
+use Rattle.answers.specs.Answers.{numberOf}
 use Rattle.answers.specs.declared.Answer.{Answer}
 use Rattle.answers.specs.declared.Answer.the-variants as answer
 use Rattle.answers.proofs.Answer.{the-type}
@@ -23,7 +24,7 @@ use Rattle.judgement.proofs.Demands.{list-met}
 use Rattle.lists.proofs.Walks.{same-walk}
 use Rattle.judgement.specs.Demands.{ListDemands}
 use Rattle.judgement.specs.LeafRights.{leafRights}
-use Rattle.judgement.specs.List.{leafAt, Walk, Result, refuse, finish, fits, leavesOf, numberOf, afterCheck, withSetup, listOf}
+use Rattle.judgement.specs.List.{leafAt, Walk, Result, refuse, finish, fits, leavesOf, afterCheck, withSetup, listOf}
 use Rattle.lists.specs.Walked.{passAt, passLeaves}
 use Rattle.judgement.specs.declared.Listed.{Listed}
 

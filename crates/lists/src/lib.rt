@@ -5,9 +5,10 @@ ghost use Prim.Native.Nat.{_+_, _*_, _≤_};
 ghost use lib.ListN.{length};
 ghost use Rattle.setups.specs.Setup.{setupFrom};
 ghost use Rattle.judgement.specs.Demands.{ListDemands};
-ghost use Rattle.judgement.specs.List.{walk, finish, numberOf, listOf};
+ghost use Rattle.judgement.specs.List.{walk, finish, listOf};
 ghost use Rattle.lists.specs.Walked.{Tables, passAt, passLeaves, walkIn, refusedOf};
 use answers::Answer;
+use answers::number_of;
 use attribute_table::attribute_table;
 use base_table::base_table;
 use judgement::LeafRights;
@@ -75,16 +76,6 @@ fn fill(
         i += 1;
     }
     Walked::All
-}
-
-fn number_of(a: Answer) -> u8
-    ensures { λ r. ⌜ r ≡ numberOf a ⌝ }
-{
-    match a {
-        Answer::Refused(n) => n,
-        Answer::Fault(_) => 0,
-        Answer::Permitted => 0,
-    }
 }
 
 fn refused(w: Walked) -> Listed

@@ -9,7 +9,8 @@ use denote.Enum.Declared.{tagOf}
 use Rattle.answers.proofs.Answer.{the-type}
 use Rattle.answers.specs.declared.Answer.{Answer}
 use Rattle.answers.specs.declared.Answer.the-variants.{Permitted, Fault, Refused}
-use Rattle.plan.specs.Plan.{numberOf, after}
+use Rattle.answers.specs.Answers.{numberOf}
+use Rattle.plan.specs.Plan.{after}
 
 pub stands : {A : Type 0} (x : Answer) (refuse : ℕ → A) (b : A) → OneOf (1 ∷ 2 ∷ []) (tagOf the-type x) → refuse (numberOf x) ≡ after x refuse b
 stands Permitted refuse b h = ⊎-elim (λ e. absurd (omega (arith, e))) (λ e. absurd (omega (arith, e))) h

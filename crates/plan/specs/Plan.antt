@@ -46,12 +46,6 @@ abbrev pub valuesOf : Plan → Values
 valuesOf (Register r) = record { number = 0; leaf = 0; register = r }
 valuesOf (Refused n i) = record { number = n; leaf = i; register = 0 }
 
--- the number of a check's refusal; a check never faults
-abbrev pub numberOf : Answer → ℕ
-numberOf answer.Permitted = 0
-numberOf (answer.Fault f) = 0
-numberOf (answer.Refused n) = n
-
 -- what follows a check that permits, or its refusal
 abbrev pub after : {A : Type 0} → Answer → (ℕ → A) → A → A
 after answer.Permitted refuse x = x

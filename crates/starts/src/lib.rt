@@ -4,22 +4,12 @@ ghost use mathlib.Core.Bool.{_&&_};
 ghost use Rattle.setups.specs.Setup.{controlOf};
 ghost use Rattle.checks.specs.Checks.{setupCheck};
 ghost use Rattle.overlays.specs.Overlay.{bitOf};
-ghost use Rattle.plan.specs.Plan.{numberOf, startOf};
+ghost use Rattle.plan.specs.Plan.{startOf};
 use accesses::Level;
 use answers::Answer;
+use answers::number_of;
 use checks::LevelCheck;
 use plan::Start;
-
-// The number of a check's refusal.
-pub fn number_of(a: Answer) -> u8
-    ensures { λ r. ⌜ r ≡ numberOf a ⌝ }
-{
-    match a {
-        Answer::Refused(n) => n,
-        Answer::Permitted => 0,
-        Answer::Fault(_) => 0,
-    }
-}
 
 // 1, 2, 3 of a control word.
 fn check_control(w: u32) -> Answer
