@@ -1,16 +1,13 @@
 -- The list's answer, case by case. Assumes nothing.
 use mathlib.Core.Path.{_≡_, refl, sym, ap, _∙_}
 use mathlib.Core.List.{List, [], _∷_}
-use mathlib.Core.Bool.{true, cond}
 use mathlib.Core.Logic.{⊎-elim}
-use Prim.Native.Nat.{ℕ, _*_, _/_, _%_, _≤_}
+use Prim.Native.Nat.{ℕ, _/_, _%_, _≤_, _<_}
 use native.Mathlib.Omega.{arith}
 use lib.ListN.{length}
-use lib.Dec.{eqb, leb}
-use borrow.Author.Tests.{leb-true}
+use borrow.Author.Tests.{eq-eqb, ne-eqb, le-leb, lt-leb}
 use types.Run.{OneOf}
 use denote.Enum.Declared.{tagOf}
-use Rattle.records.proofs.Cases.{both-hold}
 use Rattle.setups.specs.Setup.{readSetup}
 use Rattle.setups.specs.declared.Setup.{Setup}
 use Rattle.setups.specs.declared.SetupRead.{SetupRead}
@@ -24,8 +21,8 @@ use Rattle.judgement.proofs.Demands.{list-met}
 use Rattle.lists.proofs.Walks.{same-walk}
 use Rattle.judgement.specs.Demands.{ListDemands}
 use Rattle.judgement.specs.LeafRights.{leafRights}
-use Rattle.judgement.specs.List.{leafAt, Walk, Result, refuse, finish, fits, leavesOf, afterCheck, withSetup, listOf}
-use Rattle.lists.specs.Walked.{passAt, passLeaves}
+use Rattle.judgement.specs.List.{leafAt, Walk, walk, Result, refuse, finish, leavesOf, afterCheck, withSetup, listOf}
+use Rattle.lists.specs.Walked.{passAt}
 use Rattle.judgement.specs.declared.Listed.{Listed}
 
 -- the list's answer by what was read of the setup
@@ -49,20 +46,24 @@ refused-setup answer.Permitted r o h = ⊎-elim (λ e. absurd (omega (arith, e))
 refused-setup (answer.Fault f) r o h = refl
 refused-setup (answer.Refused n) r o h = refl
 
--- where no check of the setup refuses, the pass over the leaves is the list's
-pub passes : (s : Setup) (ls o : List ℕ) → setupCheck (s .control) ≡ answer.Permitted → leavesOf s ls o ≡ passLeaves s ls o
-unfolding leavesOf passLeaves passAt
-passes s ls o ok =
-    ap (λ (w : Walk). cond (fits ls o) (finish w (length ls / 18) o) (refuse 11 0 o))
-    (sym (same-walk (passAt s ls) (λ (i : ℕ). leafRights s (leafAt ls i)) (λ i. agree s (leafAt ls i) ok) 0 (length ls / 18)))
+module _ (s : Setup) (ls o : List ℕ) where
+  pub odd : (length ls % 18 ≡ 0 → ⊥) → leavesOf s ls o ≡ refuse 11 0 o
+  unfolding leavesOf
+  odd h = rw (ne-eqb _ _ h)
 
--- what the test for 11 tells of the leaves and the output
-pub record Room (ls o : List ℕ) : Type 0 where
-  pub whole : length ls / 18 * 18 ≤ length ls
-  pub few : length ls / 18 ≤ 2048
-  pub wide : length ls / 18 ≤ length o
+  module _ (even : length ls % 18 ≡ 0) where
+    pub long : 2048 < length ls / 18 → leavesOf s ls o ≡ refuse 11 0 o
+    unfolding leavesOf
+    long h = rw (eq-eqb _ _ even, lt-leb _ _ h)
 
-pub room : (ls o : List ℕ) → fits ls o ≡ true → Room ls o
-room ls o e =
-    let g = both-hold (leb (length ls / 18) 2048) (leb (length ls / 18) (length o)) (both-hold (eqb (length ls % 18) 0) _ e .1) in
-    record { whole = omega arith; few = leb-true _ _ (g .0); wide = leb-true _ _ (g .1) }
+    pub short : length ls / 18 ≤ 2048 → length o < length ls / 18 → leavesOf s ls o ≡ refuse 11 0 o
+    unfolding leavesOf
+    short h k = rw (eq-eqb _ _ even, le-leb _ _ h, lt-leb _ _ k)
+
+    -- the leaves in order: the walk that the code makes, where no check of the setup refuses
+    pub goes : setupCheck (s .control) ≡ answer.Permitted → length ls / 18 ≤ 2048 → length ls / 18 ≤ length o
+        → (w : Walk) → walk (passAt s ls) 0 (length ls / 18) ≡ w → leavesOf s ls o ≡ finish w (length ls / 18) o
+    unfolding leavesOf passAt
+    goes ok h k w e =
+        rw (eq-eqb _ _ even, le-leb _ _ h, le-leb _ _ k)
+        (ap (λ (x : Walk). finish x (length ls / 18) o) (sym (same-walk (passAt s ls) (λ (i : ℕ). leafRights s (leafAt ls i)) (λ i. agree s (leafAt ls i) ok) 0 (length ls / 18)) ∙ e))

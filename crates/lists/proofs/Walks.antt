@@ -5,15 +5,9 @@ use Prim.Native.Nat.{ℕ, zero, suc, _+_, _-_, _≤_, _<_}
 use native.Mathlib.Numerals.{add-one}
 use native.Mathlib.Omega.{arith}
 use lib.Seq.{append-snoc}
-use lib.ListN.{take}
-use Rattle.records.specs.Bytes.{over}
-use Rattle.judgement.specs.List.{Walk, bytes, refused, step, walk, finish}
+use Rattle.judgement.specs.List.{Walk, bytes, refused, step, walk}
 use Rattle.judgement.specs.declared.LeafRights.{LeafRights}
 use Rattle.judgement.specs.declared.LeafRights.the-variants.{Rights, Refused}
-use Rattle.judgement.specs.declared.Listed.the-variants.{Done}
-use Rattle.lists.specs.Walked.{walkIn, refusedOf}
-use Rattle.lists.specs.declared.Walked.{Walked}
-use Rattle.lists.specs.declared.Walked.the-variants as walked
 
 -- bytes before those of a walk
 abbrev pub ahead : List ℕ → Walk → Walk
@@ -48,12 +42,3 @@ module _ (f : ℕ → LeafRights) (n i : ℕ) (v : List ℕ) where
 pub same-walk : (f g : ℕ → LeafRights) → ((i : ℕ) → f i ≡ g i) → (i m : ℕ) → walk f i m ≡ walk g i m
 same-walk f g e i zero = refl
 same-walk f g e i (suc m) = rw (e i, same-walk f g e (suc i) m)
-
--- the list's answer to the walk x that an answer w and the buffer's contents v stand for
-pub all-answer : (w : Walked) (n : ℕ) (v o p : List ℕ) (x : Walk) → x ≡ walkIn w n v → w ≡ walked.All → p ≡ over (take n v) o
-    → (Done n ≡ finish x n o .answer) × (p ≡ finish x n o .out)
-all-answer w n v o p x e f g = rw (e, f) (refl, g)
-
-pub refused-answer : (w : Walked) (k i n : ℕ) (v o : List ℕ) (x : Walk) → x ≡ walkIn w n v → w ≡ walked.Refused k i
-    → (refusedOf w ≡ finish x n o .answer) × (o ≡ finish x n o .out)
-refused-answer w k i n v o x e f = rw (e, f) (refl, refl)

@@ -1,13 +1,12 @@
 -- What `fill` answers: private to the layer. Assumes nothing.
-use Prim.Native.Nat.{ℕ, _/_}
+use Prim.Native.Nat.{ℕ}
 use mathlib.Core.List.{List}
-use mathlib.Core.Bool.{cond}
-use lib.ListN.{length, take}
+use lib.ListN.{take}
 use Rattle.setups.specs.declared.Setup.{Setup}
 use Rattle.records.specs.declared.words.Words.{Words}
 use Rattle.levels.specs.Table.{BaseTable}
 use Rattle.memory.specs.Table.{AttributeTable}
-use Rattle.judgement.specs.List.{Walk, bytes, refused, leafAt, walk, Result, refuse, finish, fits}
+use Rattle.judgement.specs.List.{Walk, bytes, refused, leafAt}
 use Rattle.judgement.specs.Pass.{leafPass}
 use Rattle.judgement.specs.Quick.{SlotTable}
 use Rattle.judgement.specs.declared.LeafRights.{LeafRights}
@@ -26,10 +25,6 @@ Tables q b t a =
 -- the pass over leaf i
 unfoldable pub passAt : Setup → List ℕ → ℕ → LeafRights
 passAt s ls i = leafPass s (leafAt ls i)
-
--- 11, then the pass over the leaves in order
-unfoldable pub passLeaves : Setup → List ℕ → List ℕ → Result
-passLeaves s ls o = cond (fits ls o) (finish (walk (passAt s ls) 0 (length ls / 18)) (length ls / 18) o) (refuse 11 0 o)
 
 -- the walk that an answer and the buffer's contents stand for
 abbrev pub walkIn : Walked → ℕ → List ℕ → Walk

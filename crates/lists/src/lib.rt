@@ -5,8 +5,8 @@ ghost use Prim.Native.Nat.{_+_, _*_, _≤_};
 ghost use lib.ListN.{length};
 ghost use Rattle.setups.specs.Setup.{setupFrom};
 ghost use Rattle.judgement.specs.Demands.{ListDemands};
-ghost use Rattle.judgement.specs.List.{walk, finish, listOf};
-ghost use Rattle.lists.specs.Walked.{Tables, passAt, passLeaves, walkIn, refusedOf};
+ghost use Rattle.judgement.specs.List.{walk, listOf};
+ghost use Rattle.lists.specs.Walked.{Tables, passAt, walkIn, refusedOf};
 use answers::Answer;
 use answers::number_of;
 use attribute_table::attribute_table;
@@ -87,39 +87,6 @@ fn refused(w: Walked) -> Listed
     }
 }
 
-// The rights of `n` leaves to the start of `out`, or the first refusal and no byte changed.
-fn walk_leaves(q: Words, leaves: &[u8], n: usize, out: &mut [u8]) -> Listed
-    requires { ⌜ (n * 18 ≤ length (now leaves)) × (n ≤ 2048) × (n ≤ length (now out)) ⌝ }
-    ensures answer { λ r. ⌜ r ≡ finish (walk (passAt (setupFrom q) (now (leaves .entry))) 0 n) n (now (out .entry)) .answer ⌝ }
-    ensures out { λ _. ⌜ now (out .exit) ≡ finish (walk (passAt (setupFrom q) (now (leaves .entry))) 0 n) n (now (out .entry)) .out ⌝ }
-{
-    let mut rights = [0u8; 2048];
-    let base = base_table(q.control, q.pir.privileged, q.pir.unprivileged);
-    let slots = slot_table(q.control, q.por.privileged, q.por.unprivileged);
-    let attributes = attribute_table(q.control, q.mair, q.mair2);
-    let walked = fill(q, &base, &slots, &attributes, leaves, n, &mut rights);
-    let Walked::All = walked else {
-        return refused(walked);
-    };
-    bytes::copy(&rights[..n], out);
-    Listed::Done(n)
-}
-
-// 11, then the leaves in order.
-fn list_leaves(q: Words, leaves: &[u8], out: &mut [u8]) -> Listed
-    ensures answer { λ r. ⌜ r ≡ passLeaves (setupFrom q) (now (leaves .entry)) (now (out .entry)) .answer ⌝ }
-    ensures out { λ _. ⌜ now (out .exit) ≡ passLeaves (setupFrom q) (now (leaves .entry)) (now (out .entry)) .out ⌝ }
-{
-    let n = leaves.len() / 18;
-    if (leaves.len() % 18 == 0) & ((n <= 2048) & (n <= out.len())) {
-        return walk_leaves(q, leaves, n, out);
-    }
-    Listed::Refused {
-        number: 11,
-        leaf: 0,
-    }
-}
-
 // The list: 13, 1, 2, 3, 11, then its leaves in order. One rights byte per leaf goes to the start of `out`, and later bytes keep their
 // values; a refusal changes no lent byte.
 pub fn list_rights(setup: &[u8], leaves: &[u8], out: &mut [u8]) -> Listed
@@ -140,5 +107,33 @@ pub fn list_rights(setup: &[u8], leaves: &[u8], out: &mut [u8]) -> Listed
             leaf: 0,
         };
     };
-    list_leaves(q, leaves, out)
+    if leaves.len() % 18 != 0 {
+        return Listed::Refused {
+            number: 11,
+            leaf: 0,
+        };
+    }
+    let n = leaves.len() / 18;
+    if 2048 < n {
+        return Listed::Refused {
+            number: 11,
+            leaf: 0,
+        };
+    }
+    if out.len() < n {
+        return Listed::Refused {
+            number: 11,
+            leaf: 0,
+        };
+    }
+    let mut rights = [0u8; 2048];
+    let base = base_table(q.control, q.pir.privileged, q.pir.unprivileged);
+    let slots = slot_table(q.control, q.por.privileged, q.por.unprivileged);
+    let attributes = attribute_table(q.control, q.mair, q.mair2);
+    let walked = fill(q, &base, &slots, &attributes, leaves, n, &mut rights);
+    let Walked::All = walked else {
+        return refused(walked);
+    };
+    bytes::copy(&rights[..n], out);
+    Listed::Done(n)
 }
