@@ -23,10 +23,8 @@ fn is_on(w: u32, l: Level) -> bool
     ensures { λ r. ⌜ r ≡ (controlOf w .stage1 && bitOf (controlOf w .overlay) l) ⌝ }
 {
     let c = setups::read_control(w);
-    match l {
-        Level::Privileged => c.stage1 & c.overlay.privileged,
-        Level::Unprivileged => c.stage1 & c.overlay.unprivileged,
-    }
+    let overlay = c.overlay;
+    c.stage1 & overlays::bit_of(overlay, l)
 }
 
 // 1, 2, 3, 4, 12, 11 for a setup's control word, where `len` is the length of the list in bytes.

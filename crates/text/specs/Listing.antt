@@ -19,15 +19,15 @@ use Rattle.text.specs.Words.{ascii, decimal, hex16}
 abbrev pub numberThen : ℕ → List ℕ → List ℕ
 numberThen n w = decimal n ++ w
 
--- the leaf of a refusal, which ends its line
-unfoldable pub leafThen : ℕ → List ℕ
-leafThen i = ascii "leaf " ++ numberThen i (ascii "\n")
+-- a word, then a number that ends the line
+abbrev pub lastNumber : List ℕ → ℕ → List ℕ
+lastNumber w n = w ++ numberThen n (ascii "\n")
 
 -- `refused 13` or `refused 6 leaf 1`: refusals 5 to 10 show the leaf
 unfoldable pub refusalLine : ℕ → ℕ → List ℕ
 refusalLine k i =
     ascii "refused "
-    ++ cond (leb 5 k && leb k 10) (numberThen k (ascii " ") ++ leafThen i) (numberThen k (ascii "\n"))
+    ++ cond (leb 5 k && leb k 10) (numberThen k (ascii " ") ++ lastNumber (ascii "leaf ") i) (numberThen k (ascii "\n"))
 
 -- per leaf index, rights, forbidden and their common bits in decimal
 unfoldable pub leafLine : ℕ → ℕ → ℕ → List ℕ
@@ -49,10 +49,6 @@ abbrev pub planLine : Plan → List ℕ
 planLine (plan.Register r) = hex16 r ++ ascii "\n"
 planLine (plan.Refused k i) = refusalLine k i
 
--- the line of the leaf count
-unfoldable pub countLine : ℕ → List ℕ
-countLine n = ascii "leaves " ++ numberThen n (ascii "\n")
-
 -- each level's register or refusal, for a setup and leaves
 unfoldable pub planLines : List ℕ → List ℕ → List ℕ
 planLines b ls =
@@ -60,7 +56,7 @@ planLines b ls =
 
 -- the leaf count, a line for each leaf, then each level's register: for a setup, n leaves and the rights that were written
 unfoldable pub mapLines : List ℕ → List ℕ → ℕ → List ℕ → List ℕ
-mapLines b ls n rs = countLine n ++ (linesFrom (lineAt rs ls) n 0 ++ planLines b ls)
+mapLines b ls n rs = lastNumber (ascii "leaves ") n ++ (linesFrom (lineAt rs ls) n 0 ++ planLines b ls)
 
 -- a refusal of the list prints one line instead
 abbrev pub listLines : List ℕ → List ℕ → ℕ → Listed → List ℕ → List ℕ

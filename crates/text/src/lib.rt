@@ -4,12 +4,12 @@ ghost use mathlib.Core.Path.{_≡_};
 ghost use Prim.Native.Nat.{_+_, _*_, _≤_};
 ghost use lib.ListN.{length};
 ghost use Rattle.io.specs.Counts.{Counts};
-ghost use Rattle.text.specs.Listing.{lineAt, linesFrom, planLine, planLines, countLine, mapLines, mapText, written};
+ghost use Rattle.text.specs.Listing.{lineAt, linesFrom, planLine, planLines, mapLines, mapText, written};
 ghost use Rattle.text.specs.Put.{Put};
 use crate::put::put_byte;
 use crate::put::put_hex;
+use crate::put::put_last;
 use crate::put::put_leaf;
-use crate::put::put_number;
 use crate::put::put_refusal;
 use crate::put::put_word;
 use judgement::Listed;
@@ -59,22 +59,12 @@ fn put_plans(out: &mut [u8], at: usize, setup: &[u8], leaves: &[u8]) -> usize
     put_plan(out, c, planner::plan_level(setup, 1, leaves))
 }
 
-// The leaf count.
-fn put_count(out: &mut [u8], n: usize) -> usize
-    requires { ⌜ (n ≤ 2048) × (64 ≤ length (now out)) ⌝ }
-    ensures text { λ r. ⌜ Put (now (out .entry)) 0 (countLine n) (now (out .exit)) r ⌝ }
-    ensures next { λ r. ⌜ r ≤ 12 ⌝ }
-{
-    let a = put_word(out, 0, b"leaves ");
-    put_number(out, a, n as u64, b'\n')
-}
-
 // The lines of a map whose list is not refused.
 fn put_map(out: &mut [u8], setup: &[u8], leaves: &[u8], n: usize, rights: &[u8]) -> usize
     requires { ⌜ (n ≤ 2048) × (n ≤ length (now rights)) × (n * 18 ≤ length (now leaves)) × (36864 ≤ length (now out)) ⌝ }
     ensures { λ r. ⌜ Put (now (out .entry)) 0 (mapLines (now (setup .entry)) (now (leaves .entry)) n (now (rights .entry))) (now (out .exit)) r ⌝ }
 {
-    let a = put_count(out, n);
+    let a = put_last(out, 0, b"leaves ", n as u64);
     let b = put_leaves(out, a, rights, leaves, n);
     put_plans(out, b, setup, leaves)
 }

@@ -4,7 +4,7 @@ ghost use Prim.Native.Nat.{_+_, _*_, _≤_, _<_};
 ghost use mathlib.Core.List.{[], _∷_};
 ghost use lib.ListN.{length};
 ghost use Rattle.text.specs.Words.{decimal, hex16};
-ghost use Rattle.text.specs.Listing.{numberThen, leafThen, refusalLine, leafLine};
+ghost use Rattle.text.specs.Listing.{numberThen, lastNumber, refusalLine, leafLine};
 ghost use Rattle.text.specs.Put.{Put};
 
 pub(crate) fn put_word(out: &mut [u8], at: usize, word: &[u8]) -> usize
@@ -70,14 +70,14 @@ pub(crate) fn put_short(out: &mut [u8], at: usize, n: u8, byte: u8) -> usize
     put_number(out, at, wide(n), byte)
 }
 
-// The leaf of a refusal, and the end of its line.
-fn put_at_leaf(out: &mut [u8], at: usize, leaf: usize) -> usize
-    requires { ⌜ at + 26 ≤ length (now out) ⌝ }
-    ensures text { λ r. ⌜ Put (now (out .entry)) at (leafThen leaf) (now (out .exit)) r ⌝ }
-    ensures next { λ r. ⌜ r ≤ at + 26 ⌝ }
+// A word, then a number that ends the line.
+pub(crate) fn put_last(out: &mut [u8], at: usize, word: &[u8], n: u64) -> usize
+    requires { ⌜ at + length (now word) + 21 ≤ length (now out) ⌝ }
+    ensures text { λ r. ⌜ Put (now (out .entry)) at (lastNumber (now (word .entry)) n) (now (out .exit)) r ⌝ }
+    ensures next { λ r. ⌜ r ≡ at + length (now (word .entry)) + length (decimal n) + 1 ⌝ }
 {
-    let a = put_word(out, at, b"leaf ");
-    put_number(out, a, leaf as u64, b'\n')
+    let a = put_word(out, at, word);
+    put_number(out, a, n, b'\n')
 }
 
 // The line of a refusal.
@@ -89,7 +89,7 @@ pub(crate) fn put_refusal(out: &mut [u8], at: usize, number: u8, leaf: usize) ->
     let a = put_word(out, at, b"refused ");
     if (5 <= number) & (number <= 10) {
         let b = put_short(out, a, number, b' ');
-        put_at_leaf(out, b, leaf)
+        put_last(out, b, b"leaf ", leaf as u64)
     } else {
         put_short(out, a, number, b'\n')
     }

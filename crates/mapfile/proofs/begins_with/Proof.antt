@@ -1,7 +1,10 @@
 -- `begins_with` meets its contract: the tests on the slice from `at` on are those of `beginsWith` on what is left of it.
 -- Assumes nothing.
+use Prim.Native.Nat.{_+_, _-_}
 use native.Mathlib.Nat.{add-zero, add-assoc}
-use lib.ListN.{length-drop}
+use native.Mathlib.Omega.{arith}
+use lib.ListN.{length, length-drop}
+use denote.Ref.{now}
 use lib.Seq.{getD-drop}
 use borrow.Author.Tests.{le-leb, lt-leb}
 use Rattle.mapfile.specs.MapFile.{beginsWith}
@@ -17,7 +20,9 @@ add-if1 c = search needs
 
 returns : tie.Need-returns
 unfolding beginsWith
-returns c = rw (length-drop, lt-leb _ _ (c .if1 .taken))
+returns c =
+    let a = c .before .before .args in
+    rw (length-drop, lt-leb (a .len + 3) (length (now (a .s)) - a .at) (omega (arith, c .if1 .taken)))
 
 shared-slice-read-result : tie.Need-shared-slice-read-result
 shared-slice-read-result c = search needs

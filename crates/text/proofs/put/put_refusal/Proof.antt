@@ -1,5 +1,6 @@
 -- `put_refusal` puts the number, and the leaf with refusals 5 to 10. Assumes nothing.
 use native.Mathlib.Omega.{arith}
+use Rattle.text.proofs.Digits.{decimal-20}
 use Rattle.text.proofs.Puts.{then}
 use Rattle.text.specs.Listing.{refusalLine}
 use borrow.Author.Needs.{needs}
@@ -15,8 +16,11 @@ put-word-requires c κs = search needs
 put-short-requires : tie.Need-put-short-requires
 put-short-requires c κs = search needs
 
-put-at-leaf-requires : tie.Need-put-at-leaf-requires
-put-at-leaf-requires c κs = search needs
+slice-aggregate-put-last : tie.Need-slice-aggregate-put-last
+slice-aggregate-put-last c = search needs
+
+put-last-requires : tie.Need-put-last-requires
+put-last-requires c κs = search needs
 
 put-short-requires-2 : tie.Need-put-short-requires-2
 put-short-requires-2 c κs = search needs
@@ -27,14 +31,14 @@ same-length c = search needs
 returns : tie.Need-returns
 unfolding refusalLine
 returns c =
-    let s = c .before .before .before .before .before .before .before .before .before .before .before .before .before .before .before in
-    let w = c .before .before .before .before .before .before .before .before .before .before .before .put-word in
-    let n = c .before .before .before .before .before .before .put-short in
-    let l = c .before .before .put-at-leaf in (
-      rw (c .before .before .before .before .before .before .before .before .if1 .taken)
+    let s = c .before .before .before .before .before .before .before .before .before .before .before .before .before .before .before .before in
+    let w = c .before .before .before .before .before .before .before .before .before .before .before .before .put-word in
+    let n = c .before .before .before .before .before .before .before .put-short in
+    let l = c .before .before .put-last in (
+      rw (c .before .before .before .before .before .before .before .before .before .if1 .taken)
           (then _ _ _ _ _ _ _ _ (omega (arith, s .pre)) (w .ensures)
           (then _ _ _ _ _ _ _ _ (omega (arith, s .pre, w .ensures .next, w .kept .0)) (n .ensures .0) (l .ensures .0))),
-      omega (arith, w .ensures .next, n .ensures .1, l .ensures .1),
+      omega (arith, decimal-20 _ (s .fits .leaf .fits), w .ensures .next, n .ensures .1, l .ensures .1),
     )
 
 same-length-2 : tie.Need-same-length-2
@@ -55,7 +59,8 @@ put-refusal-spec =
     slice-aggregate-put-word
     put-word-requires
     put-short-requires
-    put-at-leaf-requires
+    slice-aggregate-put-last
+    put-last-requires
     put-short-requires-2
     same-length
     returns
