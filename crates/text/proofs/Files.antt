@@ -18,8 +18,9 @@ use Rattle.judgement.specs.List.{listOf}
 use Rattle.judgement.specs.declared.Listed.{Listed}
 use Rattle.judgement.specs.declared.Listed.the-variants.{Done, Refused}
 use Rattle.io.specs.Counts.{Counts}
-use Rattle.text.specs.Listing.{refusalLine, mapLines, mapText, textOf, written}
-use Rattle.text.specs.Put.{Put}
+use Rattle.lines.specs.Items.{refusalLine}
+use Rattle.text.specs.Listing.{mapLines, mapText, textOf, written}
+use Rattle.lines.specs.Put.{Put}
 
 -- the list's answer x, with the rights rs written
 module _ (b ls : List ℕ) (n : ℕ) (x : Listed) where

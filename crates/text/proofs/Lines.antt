@@ -8,9 +8,10 @@ use lib.ListN.{length, getD, drop}
 use lib.Seq.{getD-take, getD-drop}
 use Rattle.records.specs.Leaf.{leafOf}
 use Rattle.judgement.specs.List.{leafAt}
-use Rattle.text.proofs.Puts.{then}
-use Rattle.text.specs.Listing.{leafLine, lineAt, linesFrom}
-use Rattle.text.specs.Put.{Put}
+use Rattle.lines.proofs.Puts.{then}
+use Rattle.lines.specs.Items.{leafLine}
+use Rattle.text.specs.Listing.{lineAt, linesFrom}
+use Rattle.lines.specs.Put.{Put}
 
 more : (f : ℕ → List ℕ) (m i : ℕ) → linesFrom f (suc m) i ≡ linesFrom f m i ++ f (i + m)
 unfolding linesFrom

@@ -1,9 +1,8 @@
 -- Document 01, 'File, program, host': the lines that the program prints for a file. Assumes nothing.
 use Prim.Native.Nat.{ℕ, zero, suc}
-use mathlib.Core.Bool.{cond, _&&_}
+use mathlib.Core.Bool.{cond}
 use mathlib.Core.List.{List, [], _++_}
-use lib.Bits.{bitAnd}
-use lib.Dec.{leb, ltb}
+use lib.Dec.{ltb}
 use lib.ListN.{length, getD, replicate}
 use Rattle.mapfile.specs.MapFile.{Leaves, leaves, illFormed, value, fileOf}
 use Rattle.records.specs.Bytes.{over}
@@ -13,27 +12,8 @@ use Rattle.judgement.specs.declared.Listed.the-variants as listed
 use Rattle.plan.specs.Plan.{planOf}
 use Rattle.plan.specs.declared.Plan.{Plan}
 use Rattle.plan.specs.declared.Plan.the-variants as plan
-use Rattle.text.specs.Words.{ascii, decimal, hex16}
-
--- a number and what follows it
-abbrev pub numberThen : ℕ → List ℕ → List ℕ
-numberThen n w = decimal n ++ w
-
--- a word, then a number that ends the line
-abbrev pub lastNumber : List ℕ → ℕ → List ℕ
-lastNumber w n = w ++ numberThen n (ascii "\n")
-
--- `refused 13` or `refused 6 leaf 1`: refusals 5 to 10 show the leaf
-unfoldable pub refusalLine : ℕ → ℕ → List ℕ
-refusalLine k i =
-    ascii "refused "
-    ++ cond (leb 5 k && leb k 10) (numberThen k (ascii " ") ++ lastNumber (ascii "leaf ") i) (numberThen k (ascii "\n"))
-
--- per leaf index, rights, forbidden and their common bits in decimal
-unfoldable pub leafLine : ℕ → ℕ → ℕ → List ℕ
-leafLine i r f =
-    numberThen i (ascii " ")
-    ++ (numberThen r (ascii " ") ++ (numberThen f (ascii " ") ++ numberThen (bitAnd r f) (ascii "\n")))
+use Rattle.lines.specs.Items.{lastNumber, refusalLine, leafLine, registerLine}
+use Rattle.lines.specs.Words.{ascii}
 
 -- the line of leaf i, whose rights the list wrote
 abbrev pub lineAt : List ℕ → List ℕ → ℕ → List ℕ
@@ -46,7 +26,7 @@ linesFrom f (suc m) i = f i ++ linesFrom f m (suc i)
 
 -- a level's register as 16 hex digits, or its refusal
 abbrev pub planLine : Plan → List ℕ
-planLine (plan.Register r) = hex16 r ++ ascii "\n"
+planLine (plan.Register r) = registerLine r
 planLine (plan.Refused k i) = refusalLine k i
 
 -- each level's register or refusal, for a setup and leaves

@@ -1,22 +1,42 @@
 // The program's text (document 01, 'File, program, host'): the lines for a map file, made in a lent buffer. `write_listing` is the one public
 // function and has no `requires`.
 ghost use mathlib.Core.Path.{_≡_};
-ghost use Prim.Native.Nat.{_+_, _*_, _≤_};
+ghost use Prim.Native.Nat.{_+_, _*_, _≤_, _<_};
 ghost use lib.ListN.{length};
 ghost use Rattle.io.specs.Counts.{Counts};
+ghost use Rattle.lines.specs.Items.{refusalLine, leafLine};
 ghost use Rattle.text.specs.Listing.{lineAt, linesFrom, planLine, planLines, mapLines, mapText, written};
-ghost use Rattle.text.specs.Put.{Put};
-use crate::put::put_byte;
-use crate::put::put_hex;
-use crate::put::put_last;
-use crate::put::put_leaf;
-use crate::put::put_refusal;
-use crate::put::put_word;
+ghost use Rattle.lines.specs.Put.{Put};
 use judgement::Listed;
+use lines::Item;
+use lines::put_item;
 use mapfile::FileRead;
 use plan::Plan;
 
-mod put;
+// A leaf's line, of at most 17 bytes.
+fn put_leaf(out: &mut [u8], at: usize, index: usize, rights: u8, forbidden: u8) -> usize
+    requires { ⌜ (at + 64 ≤ length (now out)) × (index < 2048) ⌝ }
+    ensures text { λ r. ⌜ Put (now (out .entry)) at (leafLine index rights forbidden) (now (out .exit)) r ⌝ }
+    ensures next { λ r. ⌜ r ≤ at + 17 ⌝ }
+{
+    put_item(
+        out,
+        at,
+        Item::Leaf {
+            index,
+            rights,
+            forbidden,
+        },
+    )
+}
+
+fn put_refusal(out: &mut [u8], at: usize, number: u8, leaf: usize) -> usize
+    requires { ⌜ at + 64 ≤ length (now out) ⌝ }
+    ensures text { λ r. ⌜ Put (now (out .entry)) at (refusalLine number leaf) (now (out .exit)) r ⌝ }
+    ensures next { λ r. ⌜ r ≤ at + 64 ⌝ }
+{
+    put_item(out, at, Item::Refusal { number, leaf })
+}
 
 // A line for each of the first `n` leaves.
 fn put_leaves(out: &mut [u8], at: usize, rights: &[u8], leaves: &[u8], n: usize) -> usize
@@ -40,10 +60,7 @@ fn put_plan(out: &mut [u8], at: usize, plan: Plan) -> usize
     ensures next { λ r. ⌜ r ≤ at + 64 ⌝ }
 {
     match plan {
-        Plan::Register(r) => {
-            let end = put_hex(out, at, r);
-            put_byte(out, end, b'\n')
-        }
+        Plan::Register(r) => put_item(out, at, Item::Register(r)),
         Plan::Refused { number, leaf } => put_refusal(out, at, number, leaf),
     }
 }
@@ -53,9 +70,9 @@ fn put_plans(out: &mut [u8], at: usize, setup: &[u8], leaves: &[u8]) -> usize
     requires { ⌜ at + 192 ≤ length (now out) ⌝ }
     ensures { λ r. ⌜ Put (now (out .entry)) at (planLines (now (setup .entry)) (now (leaves .entry))) (now (out .exit)) r ⌝ }
 {
-    let a = put_word(out, at, b"privileged ");
+    let a = put_item(out, at, Item::Privileged);
     let b = put_plan(out, a, planner::plan_level(setup, 0, leaves));
-    let c = put_word(out, b, b"unprivileged ");
+    let c = put_item(out, b, Item::Unprivileged);
     put_plan(out, c, planner::plan_level(setup, 1, leaves))
 }
 
@@ -64,7 +81,7 @@ fn put_map(out: &mut [u8], setup: &[u8], leaves: &[u8], n: usize, rights: &[u8])
     requires { ⌜ (n ≤ 2048) × (n ≤ length (now rights)) × (n * 18 ≤ length (now leaves)) × (36864 ≤ length (now out)) ⌝ }
     ensures { λ r. ⌜ Put (now (out .entry)) 0 (mapLines (now (setup .entry)) (now (leaves .entry)) n (now (rights .entry))) (now (out .exit)) r ⌝ }
 {
-    let a = put_last(out, 0, b"leaves ", n as u64);
+    let a = put_item(out, 0, Item::Leaves(n));
     let b = put_leaves(out, a, rights, leaves, n);
     put_plans(out, b, setup, leaves)
 }

@@ -1,7 +1,7 @@
 -- `put_plan` puts the planner's answer. Assumes nothing.
 use native.Mathlib.Omega.{arith}
-use Rattle.text.proofs.Digits.{hex-length}
-use Rattle.text.proofs.Puts.{then}
+use Rattle.lines.proofs.Lengths.{register-length}
+use Rattle.lines.proofs.Puts.{placed-put}
 use borrow.Author.Needs.{needs}
 use Rattle.text.proofs.put_plan.Statement.{statement}
 use Rattle.text.proofs.put_plan.Tie as tie
@@ -9,11 +9,8 @@ use Rattle.text.proofs.put_plan.Tie as tie
 enum-known-plan : tie.Need-enum-known-plan
 enum-known-plan c = search needs
 
-put-hex-requires : tie.Need-put-hex-requires
-put-hex-requires c κs = search needs
-
-put-byte-requires : tie.Need-put-byte-requires
-put-byte-requires c κs = let h = c .before .before .before .put-hex in omega (arith, h .ensures .next, hex-length (c .before .before .before .before .before .before .plan .given .0 .0), h .kept .0, c .before .before .before .before .before .before .before .before .before .pre)
+put-item-requires : tie.Need-put-item-requires
+put-item-requires c κs = search needs
 
 enum-known-plan-2 : tie.Need-enum-known-plan-2
 enum-known-plan-2 c = search needs
@@ -25,10 +22,8 @@ same-length : tie.Need-same-length
 same-length c = search needs
 
 returns : tie.Need-returns
-returns c =
-    let h = c .before .before .before .before .before .before .put-hex in
-    let b = c .before .before .put-byte in
-    rw (c .before .before .before .before .before .before .before .before .before .plan .given .1) (then _ _ _ _ _ _ _ _ (omega (arith, c .before .before .before .before .before .before .before .before .before .before .before .before .pre)) (h .ensures) (b .ensures), omega (arith, h .ensures .next, b .ensures .next, hex-length (c .before .before .before .before .before .before .before .before .before .plan .given .0 .0)))
+returns c = let a = placed-put _ _ _ _ _ (c .before .before .before .before .before .before .before .before .pre) (c .before .before .put-item .ensures) in
+    rw (c .before .before .before .before .before .plan .given .1) (a, omega (arith, a .next, register-length (c .before .before .before .before .before .plan .given .0 .0)))
 
 same-length-2 : tie.Need-same-length-2
 same-length-2 c = search needs
@@ -41,8 +36,7 @@ put-plan-spec =
     tie.close
     (tie.spec
     enum-known-plan
-    put-hex-requires
-    put-byte-requires
+    put-item-requires
     enum-known-plan-2
     put-refusal-requires
     same-length
