@@ -113,8 +113,8 @@ answer b on reserved v y =
 abbrev at : List Bool → ℕ → Bool
 at m k = getD m k false
 
--- three accesses, and the pass: truth values 0 to 2 base rights, 3 overlay on, 4 slot reserved, 5 to 7 the slot's rights, 8 to 10 what
--- stage 2 grants
+-- three accesses, and the pass: truth values 0 to 2 base rights, 3 overlay on, 4 slot reserved, 5 to 7 the slot's rights, 8 to 10, where
+-- stage 2 grants something, what it grants
 abbrev accesses : (Bool → Answer) → List Bool → LevelAnswer
 accesses y m =
     collect (answer (at m 0) (at m 3) (at m 4) (at m 5) (y (at m 8))) (answer (at m 1) (at m 3) (at m 4) (at m 6) (y (at m 9)))
@@ -125,9 +125,11 @@ passed y m =
     cond (at m 3 && at m 4 && any (three (at m 0) (at m 1) (at m 2))) (level.Refused 6)
     (y (overlaid (at m 3) (three (at m 5) (at m 6) (at m 7)) (three (at m 0) (at m 1) (at m 2))) (three (at m 8) (at m 9) (at m 10)))
 
-abbrev values : LevelRights → Bool → ℕ → LevelRights → List Bool
-values r on v g =
-    r .read ∷ r .write ∷ r .execute ∷ on ∷ leb 8 v ∷ bit v 0 ∷ bit v 2 ∷ bit v 1 ∷ g .read ∷ g .write ∷ g .execute ∷ []
+abbrev values : LevelRights → Bool → ℕ → List Bool → List Bool
+values r on v g = r .read ∷ r .write ∷ r .execute ∷ on ∷ leb 8 v ∷ bit v 0 ∷ bit v 2 ∷ bit v 1 ∷ g
+
+abbrev granted : LevelRights → List Bool
+granted g = g .read ∷ g .write ∷ g .execute ∷ []
 
 passes : (r : LevelRights) (on : Bool) (v : ℕ) (t : Stage2Pass) (k : Kind) (l : Level)
     → collect
@@ -136,11 +138,11 @@ passes : (r : LevelRights) (on : Bool) (v : ℕ) (t : Stage2Pass) (k : Kind) (l 
     (follow (follow (faultUnless (r .execute) 1 Permission) (slotAnswer on v Execute)) (stage2As t (faultOf 2 k) l Execute))
     ≡ passLevel r on v t l
 passes r on v (two.Granted g) k l =
-    each (values r on v (levelIn g l)) (accesses (λ b. faultUnless b 2 Permission)) (passed (λ a b. level.Rights (both a b))) refl
+    each (values r on v (granted (levelIn g l))) (accesses (λ b. faultUnless b 2 Permission)) (passed (λ a b. level.Rights (both a b))) refl
 passes r on v two.Nothing k l =
-    each (values r on v none) (accesses (λ b. faultOf 2 k)) (passed (λ a b. level.Rights none)) refl
+    each (values r on v []) (accesses (λ b. faultOf 2 k)) (passed (λ a b. level.Rights none)) refl
 passes r on v (two.Refused n) k l =
-    each (values r on v none) (accesses (λ b. Refused n)) (passed (λ a b. cond (any a) (level.Refused n) (level.Rights none))) refl
+    each (values r on v []) (accesses (λ b. Refused n)) (passed (λ a b. cond (any a) (level.Refused n) (level.Rights none))) refl
 
 -- the same with stage 1 as a whole
 with-stage1 : (o : LevelBits) (x : Stage1Pass) (v : ℕ) (t : Stage2Pass) (j k : Kind) (l : Level)
@@ -187,9 +189,9 @@ left-passes : (r : LevelRights) (on : Bool) (v : ℕ) (t : Stage2Pass) (k : Kind
     (follow (follow (faultUnless (r .write) 1 Permission) (slotAnswer on v Write)) (stage2As t (faultOf 2 k) l Write))
     (follow (follow (faultUnless (r .execute) 1 Permission) (slotAnswer on v Execute)) (stage2As t (faultOf 2 k) l Execute))
     ≡ none
-left-passes r on v (two.Granted g) k l = each (values r on v (levelIn g l)) (leftOf (λ b. faultUnless b 2 Permission)) (λ m. none) refl
-left-passes r on v two.Nothing k l = each (values r on v none) (leftOf (λ b. faultOf 2 k)) (λ m. none) refl
-left-passes r on v (two.Refused n) k l = each (values r on v none) (leftOf (λ b. Refused n)) (λ m. none) refl
+left-passes r on v (two.Granted g) k l = each (values r on v (granted (levelIn g l))) (leftOf (λ b. faultUnless b 2 Permission)) (λ m. none) refl
+left-passes r on v two.Nothing k l = each (values r on v []) (leftOf (λ b. faultOf 2 k)) (λ m. none) refl
+left-passes r on v (two.Refused n) k l = each (values r on v []) (leftOf (λ b. Refused n)) (λ m. none) refl
 
 left-with-stage1 : (o : LevelBits) (x : Stage1Pass) (v : ℕ) (t : Stage2Pass) (j k : Kind) (l : Level)
     → left (follow (stage1As o x v (faultOf 1 j) l Read) (stage2As t (faultOf 2 k) l Read))
