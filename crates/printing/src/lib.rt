@@ -6,18 +6,6 @@ pub fn text(t: &[u8]) {
     io::write_all(STDOUT_FILENO, t);
 }
 
-// A name, then a decimal number.
-pub fn number(name: &[u8], n: u64) {
-    text(name);
-    io::print_decimal(STDOUT_FILENO, n);
-}
-
-// A name, then the sixteen digits of a register.
-pub fn register(name: &[u8], n: u64) {
-    text(name);
-    io::print_hex(STDOUT_FILENO, n, 16);
-}
-
 // The byte at index `i`, where `here` is on.
 fn print_byte(here: bool, t: &[u8], i: usize) {
     if here {
@@ -45,26 +33,49 @@ fn spaces(n: usize, c: u8) -> usize {
     counted(n, c, 32)
 }
 
-// The flag of name `k`, counted from 1.
+// Whether word `k` is printed: the text before the first space and the words after the last flag are.
 fn flag(on: &[bool], k: usize) -> bool {
     if k == 0 {
-        return false;
+        return true;
     }
     if k - 1 < on.len() {
         return on[k - 1];
     }
-    false
+    true
 }
 
-// Those of the names, each of which begins with a space, whose flag is on.
-pub fn flags(names: &[u8], on: &[bool]) {
+// The number at index `k` where `c` asks for it: `#` in decimal, `$` as the sixteen digits of a register.
+fn print_value(c: u8, values: &[u64], k: usize) {
+    if values.len() <= k {
+        return;
+    }
+    if c == 35 {
+        io::print_decimal(STDOUT_FILENO, values[k]);
+    }
+    if c == 36 {
+        io::print_hex(STDOUT_FILENO, values[k], 16);
+    }
+}
+
+// A text without the words whose flag is off: a flag to each word after the first, in order. In place of each `#` stands the next number in
+// decimal, of each `$` the next as the sixteen digits of a register. Numbers and the line's end are always printed.
+pub fn line(t: &[u8], on: &[bool], values: &[u64]) {
+    let mut w: usize = 0;
     let mut k: usize = 0;
     let mut i: usize = 0;
-    while i < names.len() {
-        k = counted(k, names[i], 32);
-        print_byte(flag(on, k), names, i);
+    while i < t.len() {
+        let c = t[i];
+        w = counted(w, c, 32);
+        print_value(c, values, k);
+        print_byte((c == 10) | (flag(on, w) & (c != 35) & (c != 36)), t, i);
+        k = counted(counted(k, c, 35), c, 36);
         i += 1;
     }
+}
+
+// A text with numbers.
+pub fn form(t: &[u8], values: &[u64]) {
+    line(t, &[], values);
 }
 
 // How many lines a table has.
@@ -137,29 +148,50 @@ pub fn low(x: u64) -> u8 {
     (x % 256) as u8
 }
 
+// The first `n` bytes, or none where there are fewer.
+pub fn front(s: &[u8], n: usize) -> &[u8] {
+    if n <= s.len() {
+        return &s[0..n];
+    }
+    &s[..0]
+}
+
+// A sum, where the first number is at most 65,536; else the first number.
+fn plus(a: usize, b: u8) -> usize {
+    if 65536 < a {
+        return a;
+    }
+    a + b as usize
+}
+
 // Puts a byte at index `at`, where there is one.
-pub fn put_byte(buf: &mut [u8], at: usize, b: u8) {
+fn put_byte(buf: &mut [u8], at: usize, b: u8) {
     if at < buf.len() {
         buf[at] = b;
     }
 }
 
-// Puts the lower half of a number.
-fn put_half(buf: &mut [u8], at: usize, x: u64) {
-    if 65536 < at {
-        return;
+// Puts the lowest `n` bytes of a number, the lowest first, from index `at` on.
+fn put(buf: &mut [u8], at: usize, n: u8, x: u64) {
+    let mut rest = x;
+    let mut i: u8 = 0;
+    while i < n {
+        put_byte(buf, plus(at, i), low(rest));
+        rest = rest / 256;
+        i += 1;
     }
-    put_byte(buf, at, low(x));
-    put_byte(buf, at + 1, low(x >> 8));
-    put_byte(buf, at + 2, low(x >> 16));
-    put_byte(buf, at + 3, low(x >> 24));
 }
 
-// Puts a number's eight bytes, the lowest first, from index `at` on.
-pub fn put(buf: &mut [u8], at: usize, x: u64) {
-    if 65536 < at {
-        return;
+// Makes a record of the words of line `k` from word `j` on: of each as many bytes as its digit in `sizes` says, the lowest first.
+pub fn put_words(buf: &mut [u8], sizes: &[u8], t: &[u8], k: usize, j: usize) {
+    let mut at: usize = 0;
+    let mut w = j;
+    let mut i: usize = 0;
+    while i < sizes.len() {
+        let n = low(longer(0, sizes[i]));
+        put(buf, at, n, word(t, k, w));
+        at = plus(at, n);
+        w = plus(w, 1);
+        i += 1;
     }
-    put_half(buf, at, x);
-    put_half(buf, at + 4, x >> 32);
 }

@@ -1,21 +1,16 @@
 // Decodes the example of document 01 and the edges of the record layer, and prints what was found. Its cases are in `stdin`, one to a line,
 // in hexadecimal, and its expected output is `stdout`. A case begins with its kind:
-// 0 the setup in the example's bytes from one index up to another;
-// 1 the leaf there, with a PIR and a POR;
-// 2 a stage 1 descriptor, with a PIR and a POR; 3 a stage 2 descriptor; 4 a control word; 5 an access number;
-// 6 the example as a file: its length, the room for leaves, an index and the byte to put there (at index 3 the example has 2B), name;
-// 7 a leaf of 18 equal bytes, with a PIR and a POR.
-ghost use Prim.Native.Nat.{_≤_};
+// 0 a setup: its length in bytes, control, MAIR, MAIR2, PIRs, PORs;
+// 1 a leaf: its length in bytes, both descriptors, limits, forbidden, then a PIR and a POR;
+// 2 a stage 1 descriptor, with a PIR and a POR; 3 a stage 2 descriptor; 4 a control word; 5 an access number.
 use accesses::AccessRead;
 use accesses::Level;
 use accesses::Right;
 use libc::STDIN_FILENO;
-use mapfile::FileRead;
-use printing::flags;
-use printing::low;
-use printing::number;
-use printing::print_rest;
-use printing::register;
+use printing::form;
+use printing::front;
+use printing::line;
+use printing::put_words;
 use printing::text;
 use printing::word;
 use records::leaf::LeafRead;
@@ -40,36 +35,37 @@ fn print_control(c: Control) {
         c.aie,
         c.above,
     ];
-    text(b"control");
-    flags(
-        b" two stage1 stage2 indirect overlay-privileged overlay-unprivileged wxn pan unlimited fwb dc icacheable aie above",
+    line(
+        b"control two stage1 stage2 indirect overlay-privileged overlay-unprivileged wxn pan unlimited fwb dc icacheable aie above\n",
         &on,
+        &[],
     );
-    text(b"\n");
 }
 
 fn print_registers(s: Setup) {
-    register(b"mair ", s.mair);
-    register(b" mair2 ", s.mair2);
-    register(b"\npir ", s.pir.privileged);
-    register(b" ", s.pir.unprivileged);
-    register(b"\npor ", s.por.privileged);
-    register(b" ", s.por.unprivileged);
-    text(b"\n");
+    form(
+        b"mair $ mair2 $\npir $ $\npor $ $\n",
+        &[
+            s.mair,
+            s.mair2,
+            s.pir.privileged,
+            s.pir.unprivileged,
+            s.por.privileged,
+            s.por.unprivileged,
+        ],
+    );
 }
 
-fn print_setup(b: &[u8]) {
-    let SetupRead::Read(s) = setups::read_setup(b) else {
+fn print_setup(t: &[u8], k: usize) {
+    let mut b = [0u8; 60];
+    put_words(&mut b, b"4888888", t, k, 2);
+    let SetupRead::Read(s) = setups::read_setup(front(&b, word(t, k, 1) as usize)) else {
         text(b"setup refused 13\n");
         return;
     };
     let c = s.control;
     print_control(c);
     print_registers(s);
-}
-
-fn small(x: u8) -> u64 {
-    x as u64
 }
 
 fn print_stage1(d: u64, pir: u64, por: u64) {
@@ -87,208 +83,90 @@ fn print_stage1(d: u64, pir: u64, por: u64) {
         f.bit7,
         f.bit51,
     ];
-    text(b"stage1");
-    flags(b" valid ap1 ap2 af pxn uxn attrindx3 bit7 bit51", &on);
-    number(b" attrindx ", small(f.attrindx));
-    number(b" sh ", small(f.sh));
-    number(b" code ", small(i.code(pir)));
-    number(b" slot ", small(o.slot(por)));
-    text(b"\n");
+    line(
+        b"stage1 valid ap1 ap2 af pxn uxn attrindx3 bit7 bit51 attrindx # sh # code # slot #\n",
+        &on,
+        &[
+            f.attrindx as u64,
+            f.sh as u64,
+            i.code(pir) as u64,
+            o.slot(por) as u64,
+        ],
+    );
 }
 
 fn print_stage2(d: u64) {
     let f = fields::read_stage2(d);
     let on = [f.valid, f.read, f.write, f.af, f.bit51];
-    text(b"stage2");
-    flags(b" valid read write af bit51", &on);
-    number(b" memattr ", small(f.memattr));
-    number(b" sh ", small(f.sh));
-    number(b" xn ", small(f.xn));
-    text(b"\n");
+    line(
+        b"stage2 valid read write af bit51 memattr # sh # xn #\n",
+        &on,
+        &[f.memattr as u64, f.sh as u64, f.xn as u64],
+    );
 }
 
-fn print_limits(l: u8) {
+fn print_limits(l: u8, forbidden: u8) {
     let t = fields::read_limits(l);
     let on = [t.aptable0, t.aptable1, t.pxntable, t.uxntable];
-    text(b"limits");
-    flags(b" aptable0 aptable1 pxntable uxntable", &on);
+    line(
+        b"limits aptable0 aptable1 pxntable uxntable forbidden #\n",
+        &on,
+        &[forbidden as u64],
+    );
 }
 
-fn print_leaf(b: &[u8], pir: u64, por: u64) {
-    let LeafRead::Read(l) = records::leaf::read_leaf(b) else {
+fn print_leaf(t: &[u8], k: usize) {
+    let mut b = [0u8; 24];
+    put_words(&mut b, b"8811", t, k, 2);
+    let LeafRead::Read(l) = records::leaf::read_leaf(front(&b, word(t, k, 1) as usize)) else {
         text(b"leaf refused 13\n");
         return;
     };
-    print_stage1(l.stage1, pir, por);
+    print_stage1(l.stage1, word(t, k, 6), word(t, k, 7));
     print_stage2(l.stage2);
-    print_limits(l.limits);
-    number(b" forbidden ", small(l.forbidden));
-    text(b"\n");
+    print_limits(l.limits, l.forbidden);
 }
 
-fn print_level(l: Level) {
+fn is_privileged(l: Level) -> bool {
     match l {
-        Level::Privileged => text(b" privileged"),
-        Level::Unprivileged => text(b" unprivileged"),
+        Level::Privileged => true,
+        Level::Unprivileged => false,
     }
 }
 
-fn print_right(r: Right) {
+fn right_number(r: Right) -> u8 {
     match r {
-        Right::Read => text(b" read\n"),
-        Right::Write => text(b" write\n"),
-        Right::Execute => text(b" execute\n"),
+        Right::Read => 0,
+        Right::Write => 1,
+        Right::Execute => 2,
     }
 }
 
 fn print_access(n: u64) {
-    number(b"access ", n);
     let AccessRead::Read(a) = accesses::read_access(n) else {
-        text(b" unknown\n");
+        form(b"access # unknown\n", &[n]);
         return;
     };
     let level = a.level;
-    print_level(level);
     let right = a.right;
-    print_right(right);
-}
-
-// How many bytes are not `b`.
-fn differ(s: &[u8], b: u8) -> u64 {
-    let mut n: u64 = 0;
-    let mut i: usize = 0;
-    while i < s.len() {
-        if s[i] != b {
-            n += 1;
-        }
-        i += 1;
-    }
-    n
-}
-
-// Reads the first `len` bytes of `file` as a map file, with `room` bytes of `leaves` lent for the leaves, and prints the answer.
-fn print_read(file: &[u8], len: usize, setup: &mut [u8], leaves: &mut [u8], room: usize) {
-    if file.len() < len {
-        return;
-    }
-    if leaves.len() < room {
-        return;
-    }
-    match mapfile::read_file(&file[..len], setup, &mut leaves[..room]) {
-        FileRead::Map(n) => number(b" map ", n as u64),
-        FileRead::Refused(k) => number(b" refused ", small(k)),
-    }
-}
-
-// The same with fresh buffers, and prints how many lent bytes changed.
-fn print_file(file: &[u8], len: usize, room: usize) {
-    let mut setup = [170u8; 60];
-    let mut leaves = [170u8; 36866];
-    print_read(file, len, &mut setup, &mut leaves, room);
-    number(b" setup bytes changed ", differ(&setup, 170));
-    number(b" leaf bytes changed ", differ(&leaves, 170));
-    text(b"\n");
-}
-
-// The header of a field at index `at`.
-fn header(buf: &mut [u8], at: usize, tag: u8, len: u8) {
-    if buf.len() < 3 {
-        return;
-    }
-    if buf.len() - 3 < at {
-        return;
-    }
-    buf[at] = tag;
-    buf[at + 1] = len;
-    buf[at + 2] = 0;
-}
-
-// The headers of a map file with `n` leaves.
-fn headers(buf: &mut [u8], n: usize)
-    requires { ⌜ n ≤ 4096 ⌝ }
-{
-    header(buf, 0, 1, 52);
-    let mut i: usize = 0;
-    while i < n {
-        header(buf, 55 + 21 * i, 2, 18);
-        i += 1;
-    }
-}
-
-// The example of document 01: control 2B, PIR 11 and 58, PORs 0 and 7; stage 1 747 and 707, forbidden 16. Room for 2,049 leaves.
-fn example() -> [u8; 43084] {
-    let mut file = [0u8; 43084];
-    headers(&mut file, 2049);
-    file[3] = 0x2b;
-    file[23] = 0x11;
-    file[31] = 0x58;
-    file[47] = 7;
-    file[58] = 0x47;
-    file[59] = 7;
-    file[75] = 16;
-    file[79] = 7;
-    file[80] = 7;
-    file[96] = 16;
-    file
-}
-
-// Reads the example's first `len` bytes with the byte `b` at index `at`.
-fn print_damaged(len: usize, room: usize, at: usize, b: u8) {
-    if 97 <= at {
-        return;
-    }
-    let mut file = example();
-    file[at] = b;
-    print_file(&file, len, room);
-}
-
-// The bytes from index `from` up to, not including, index `to`, or none where they are not all there.
-fn part(s: &[u8], from: usize, to: usize) -> &[u8] {
-    if to < from {
-        return &s[..0];
-    }
-    if s.len() < to {
-        return &s[..0];
-    }
-    &s[from..to]
-}
-
-fn print_file_case(t: &[u8], k: usize) {
-    print_rest(t, k, 5);
-    print_damaged(
-        word(t, k, 1) as usize,
-        word(t, k, 2) as usize,
-        word(t, k, 3) as usize,
-        low(word(t, k, 4)),
+    let p = is_privileged(level);
+    let r = right_number(right);
+    line(
+        b"access # privileged unprivileged read write execute\n",
+        &[true, p, !p, r == 0, r == 1, r == 2],
+        &[n],
     );
-}
-
-// A case of the example's bytes.
-fn print_part(leaf: bool, t: &[u8], k: usize) {
-    let file = example();
-    let b = part(&file, word(t, k, 1) as usize, word(t, k, 2) as usize);
-    if leaf {
-        print_leaf(b, word(t, k, 3), word(t, k, 4));
-        return;
-    }
-    print_setup(b);
-}
-
-fn print_same(b: u8, pir: u64, por: u64) {
-    print_leaf(&[b; 18], pir, por);
 }
 
 fn print_case(t: &[u8], k: usize) {
     let x = word(t, k, 1);
     match word(t, k, 0) {
-        0 => print_part(false, t, k),
-        1 => print_part(true, t, k),
+        0 => print_setup(t, k),
+        1 => print_leaf(t, k),
         2 => print_stage1(x, word(t, k, 2), word(t, k, 3)),
         3 => print_stage2(x),
         4 => print_control(setups::read_control((x % 0x100000000) as u32)),
-        5 => print_access(x),
-        6 => print_file_case(t, k),
-        _ => print_same(low(x), word(t, k, 2), word(t, k, 3)),
+        _ => print_access(x),
     }
 }
 

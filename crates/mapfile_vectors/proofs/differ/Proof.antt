@@ -4,8 +4,8 @@ use Prim.Native.Nat.{_≤_, _-_}
 use native.Mathlib.Omega.{arith}
 use lib.ListN.{length}
 use mathlib.Core.Logic.{⊎-elim}
-use Rattle.records_vectors.proofs.differ.Statement.{statement}
-use Rattle.records_vectors.proofs.differ.Tie as tie
+use Rattle.mapfile_vectors.proofs.differ.Statement.{statement}
+use Rattle.mapfile_vectors.proofs.differ.Tie as tie
 
 abbrev Inv-loop : tie.InvT-loop
 Inv-loop s b n₀ i₀ n i = (i ≤ length s) × (n ≤ i)

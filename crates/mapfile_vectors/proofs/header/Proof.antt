@@ -2,8 +2,8 @@
 use native.Mathlib.Omega.{arith}
 use lib.ListN.{length-set}
 use borrow.Author.Needs.{needs}
-use Rattle.records_vectors.proofs.header.Statement.{statement}
-use Rattle.records_vectors.proofs.header.Tie as tie
+use Rattle.mapfile_vectors.proofs.header.Statement.{statement}
+use Rattle.mapfile_vectors.proofs.header.Tie as tie
 
 returns : tie.Need-returns
 returns c = search needs

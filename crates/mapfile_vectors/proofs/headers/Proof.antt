@@ -4,8 +4,8 @@ use Prim.Native.Nat.{_≤_, _-_}
 use mathlib.Core.Path.{_≡_, _∙_}
 use native.Mathlib.Omega.{arith}
 use lib.ListN.{length}
-use Rattle.records_vectors.proofs.headers.Statement.{statement}
-use Rattle.records_vectors.proofs.headers.Tie as tie
+use Rattle.mapfile_vectors.proofs.headers.Statement.{statement}
+use Rattle.mapfile_vectors.proofs.headers.Tie as tie
 
 abbrev Inv-loop : tie.InvT-loop
 Inv-loop buf₀ n i₀ buf i = (i ≤ n) × (length buf ≡ length buf₀)

@@ -1,30 +1,39 @@
--- `flags` is safe and ends. Assumes nothing.
+-- `line` is safe and ends. Assumes nothing.
 use borrow.Author.Needs.{needs}
 use Prim.Native.Nat.{_≤_, _-_}
 use lib.ListN.{length}
-use Rattle.printing.proofs.flags.Statement.{statement}
-use Rattle.printing.proofs.flags.Tie as tie
+use Rattle.printing.proofs.line.Statement.{statement}
+use Rattle.printing.proofs.line.Tie as tie
 
 abbrev Inv-loop : tie.InvT-loop
-Inv-loop names on k₀ i₀ k i = i ≤ length names
+Inv-loop t on values w₀ k₀ i₀ w k i = i ≤ length t
 
 abbrev μ-loop : tie.MeasureT-loop
-μ-loop names on k₀ i₀ k i = length names - i
+μ-loop t on values w₀ k₀ i₀ w k i = length t - i
 
 loop-holds : tie.Need-loop-holds Inv-loop μ-loop
 loop-holds c = search needs
 
-shared-slice-read-counted : tie.Need-shared-slice-read-counted Inv-loop μ-loop
-shared-slice-read-counted c = search needs
+shared-slice-read-c : tie.Need-shared-slice-read-c Inv-loop μ-loop
+shared-slice-read-c c = search needs
 
 counted-requires : tie.Need-counted-requires Inv-loop μ-loop
 counted-requires c κs = search needs
+
+print-value-requires : tie.Need-print-value-requires Inv-loop μ-loop
+print-value-requires c κs = search needs
 
 flag-requires : tie.Need-flag-requires Inv-loop μ-loop
 flag-requires c κs = search needs
 
 print-byte-requires : tie.Need-print-byte-requires Inv-loop μ-loop
 print-byte-requires c κs = search needs
+
+counted-requires-2 : tie.Need-counted-requires-2 Inv-loop μ-loop
+counted-requires-2 c κs = search needs
+
+counted-requires-3 : tie.Need-counted-requires-3 Inv-loop μ-loop
+counted-requires-3 c κs = search needs
 
 add-i : tie.Need-add-i Inv-loop μ-loop
 add-i c = search needs
@@ -38,17 +47,20 @@ loop-again c = search needs
 returns : tie.Need-returns Inv-loop μ-loop
 returns c = search needs
 
-pub flags-spec : {M : Type 1} → statement M
-flags-spec =
+pub line-spec : {M : Type 1} → statement M
+line-spec =
     tie.close
     (tie.spec
     Inv-loop
     μ-loop
     loop-holds
-    shared-slice-read-counted
+    shared-slice-read-c
     counted-requires
+    print-value-requires
     flag-requires
     print-byte-requires
+    counted-requires-2
+    counted-requires-3
     add-i
     loop-less
     loop-again
