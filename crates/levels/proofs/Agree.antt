@@ -6,7 +6,7 @@ use mathlib.Core.List.{List, [], _∷_}
 use Prim.Native.Nat.{ℕ}
 use lib.Dec.{leb}
 use lib.ListN.{getD}
-use Rattle.records.proofs.Cases.{each}
+use Rattle.records.proofs.Cases.{tree, each}
 use Rattle.accesses.specs.Access.{accessOf}
 use Rattle.descriptors.specs.Bits.{bit}
 use Rattle.descriptors.specs.Descriptor.{slotAt}
@@ -125,11 +125,30 @@ passed y m =
     cond (at m 3 && at m 4 && any (three (at m 0) (at m 1) (at m 2))) (level.Refused 6)
     (y (overlaid (at m 3) (three (at m 5) (at m 6) (at m 7)) (three (at m 0) (at m 1) (at m 2))) (three (at m 8) (at m 9) (at m 10)))
 
-abbrev values : LevelRights → Bool → ℕ → List Bool → List Bool
-values r on v g = r .read ∷ r .write ∷ r .execute ∷ on ∷ leb 8 v ∷ bit v 0 ∷ bit v 2 ∷ bit v 1 ∷ g
+-- rights, and the truth values after them
+abbrev pub values : LevelRights → List Bool → List Bool
+values r m = r .read ∷ r .write ∷ r .execute ∷ m
 
-abbrev granted : LevelRights → List Bool
-granted g = g .read ∷ g .write ∷ g .execute ∷ []
+-- the slot's rights
+abbrev slot : ℕ → List Bool → List Bool
+slot v m = bit v 0 ∷ bit v 2 ∷ bit v 1 ∷ m
+
+-- two functions of these truth values agree if they do where the overlay is off, where the slot is reserved, and where neither is so:
+-- in the first two the slot's rights are not seen
+module _ {A : Type 0} (f g : List Bool → A) (r s : LevelRights) (v : ℕ) where
+  abbrev unseen : Bool → Bool → List Bool → List Bool
+  unseen o z m = at m 0 ∷ at m 1 ∷ at m 2 ∷ o ∷ z ∷ slot v (at m 3 ∷ at m 4 ∷ at m 5 ∷ [])
+
+  abbrev seen : List Bool → List Bool
+  seen m = at m 0 ∷ at m 1 ∷ at m 2 ∷ true ∷ false ∷ at m 3 ∷ at m 4 ∷ at m 5 ∷ at m 6 ∷ at m 7 ∷ at m 8 ∷ []
+
+  by-slot : (o z : Bool) → ((t : Bool) → tree 6 (λ (m : List Bool). f (unseen false t m)) ≡ tree 6 (λ (m : List Bool). g (unseen false t m)))
+      → tree 6 (λ (m : List Bool). f (unseen true true m)) ≡ tree 6 (λ (m : List Bool). g (unseen true true m))
+      → tree 9 (λ (m : List Bool). f (seen m)) ≡ tree 9 (λ (m : List Bool). g (seen m))
+      → f (values r (o ∷ z ∷ slot v (values s []))) ≡ g (values r (o ∷ z ∷ slot v (values s [])))
+  by-slot false z p q t = each (values r (values s [])) (λ (m : List Bool). f (unseen false z m)) (λ (m : List Bool). g (unseen false z m)) (p z)
+  by-slot true true p q t = each (values r (values s [])) (λ (m : List Bool). f (unseen true true m)) (λ (m : List Bool). g (unseen true true m)) q
+  by-slot true false p q t = each (values r (slot v (values s []))) (λ (m : List Bool). f (seen m)) (λ (m : List Bool). g (seen m)) t
 
 passes : (r : LevelRights) (on : Bool) (v : ℕ) (t : Stage2Pass) (k : Kind) (l : Level)
     → collect
@@ -138,11 +157,11 @@ passes : (r : LevelRights) (on : Bool) (v : ℕ) (t : Stage2Pass) (k : Kind) (l 
     (follow (follow (faultUnless (r .execute) 1 Permission) (slotAnswer on v Execute)) (stage2As t (faultOf 2 k) l Execute))
     ≡ passLevel r on v t l
 passes r on v (two.Granted g) k l =
-    each (values r on v (granted (levelIn g l))) (accesses (λ b. faultUnless b 2 Permission)) (passed (λ a b. level.Rights (both a b))) refl
+    by-slot (accesses (λ b. faultUnless b 2 Permission)) (passed (λ a b. level.Rights (both a b))) r (levelIn g l) v on (leb 8 v) (λ t. refl) refl refl
 passes r on v two.Nothing k l =
-    each (values r on v []) (accesses (λ b. faultOf 2 k)) (passed (λ a b. level.Rights none)) refl
+    each (values r (on ∷ leb 8 v ∷ slot v [])) (accesses (λ b. faultOf 2 k)) (passed (λ a b. level.Rights none)) refl
 passes r on v (two.Refused n) k l =
-    each (values r on v []) (accesses (λ b. Refused n)) (passed (λ a b. cond (any a) (level.Refused n) (level.Rights none))) refl
+    each (values r (on ∷ leb 8 v ∷ slot v [])) (accesses (λ b. Refused n)) (passed (λ a b. cond (any a) (level.Refused n) (level.Rights none))) refl
 
 -- the same with stage 1 as a whole
 with-stage1 : (o : LevelBits) (x : Stage1Pass) (v : ℕ) (t : Stage2Pass) (j k : Kind) (l : Level)
@@ -189,9 +208,10 @@ left-passes : (r : LevelRights) (on : Bool) (v : ℕ) (t : Stage2Pass) (k : Kind
     (follow (follow (faultUnless (r .write) 1 Permission) (slotAnswer on v Write)) (stage2As t (faultOf 2 k) l Write))
     (follow (follow (faultUnless (r .execute) 1 Permission) (slotAnswer on v Execute)) (stage2As t (faultOf 2 k) l Execute))
     ≡ none
-left-passes r on v (two.Granted g) k l = each (values r on v (granted (levelIn g l))) (leftOf (λ b. faultUnless b 2 Permission)) (λ m. none) refl
-left-passes r on v two.Nothing k l = each (values r on v []) (leftOf (λ b. faultOf 2 k)) (λ m. none) refl
-left-passes r on v (two.Refused n) k l = each (values r on v []) (leftOf (λ b. Refused n)) (λ m. none) refl
+left-passes r on v (two.Granted g) k l =
+    by-slot (leftOf (λ b. faultUnless b 2 Permission)) (λ m. none) r (levelIn g l) v on (leb 8 v) (λ t. refl) refl refl
+left-passes r on v two.Nothing k l = each (values r (on ∷ leb 8 v ∷ slot v [])) (leftOf (λ b. faultOf 2 k)) (λ m. none) refl
+left-passes r on v (two.Refused n) k l = each (values r (on ∷ leb 8 v ∷ slot v [])) (leftOf (λ b. Refused n)) (λ m. none) refl
 
 left-with-stage1 : (o : LevelBits) (x : Stage1Pass) (v : ℕ) (t : Stage2Pass) (j k : Kind) (l : Level)
     → left (follow (stage1As o x v (faultOf 1 j) l Read) (stage2As t (faultOf 2 k) l Read))

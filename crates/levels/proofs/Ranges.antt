@@ -4,7 +4,7 @@
 use mathlib.Core.Path.{_≡_, refl, sym, ap, _∙_}
 use mathlib.Core.Bool.{Bool, false, cond, _&&_, _||_, true}
 use mathlib.Core.List.{List, [], _∷_}
-use Prim.Native.Nat.{ℕ, _<_}
+use Prim.Native.Nat.{ℕ, suc, _<_}
 use native.Mathlib.Omega.{arith}
 use lib.ListN.{getD}
 use borrow.Author.Tests.{lt-leb}
@@ -20,7 +20,7 @@ use Rattle.descriptors.specs.declared.Stage2.{Stage2}
 use Rattle.setups.specs.declared.LevelBits.{LevelBits}
 use Rattle.setups.specs.declared.Setup.{Setup}
 use Rattle.permissions.specs.Base.{baseOf}
-use Rattle.levels.proofs.Agree.{agree}
+use Rattle.levels.proofs.Agree.{values, agree}
 use Rattle.levels.specs.Level.{levelOf, rangeFrom, rangeOf, between}
 use Rattle.stages.specs.LevelRights.{three, levelIn}
 use Rattle.overlays.specs.Overlay.{bitOf, registerOf, slotRights}
@@ -81,34 +81,32 @@ betweenOf (Refused n) b v = Refused n
 abbrev pick : List Bool → ℕ → Bool
 pick m k = getD m k false
 
--- the pass with a slot that is not reserved: truth values 0 to 2 base rights, 3 overlay on, 4 to 6 the slot's rights, 7 to 9 what stage 2
--- grants
-abbrev slotted : (LevelRights → LevelRights → LevelAnswer) → LevelRights → List Bool → LevelAnswer
-slotted y v m =
-    cond (pick m 3 && false && any (three (pick m 0) (pick m 1) (pick m 2))) (Refused 6)
-    (y (overlaid (pick m 3) v (three (pick m 0) (pick m 1) (pick m 2))) (three (pick m 7) (pick m 8) (pick m 9)))
+abbrev three-from : ℕ → List Bool → LevelRights
+three-from k m = three (pick m k) (pick m (suc k)) (pick m (suc (suc k)))
 
+-- the pass with a slot that is not reserved: v the slot's rights, g what stage 2 grants, truth values 0 to 2 base rights, 3 overlay on
+abbrev slotted : (LevelRights → LevelRights → LevelAnswer) → LevelRights → LevelRights → List Bool → LevelAnswer
+slotted y v g m = cond (pick m 3 && false && any (three-from 0 m)) (Refused 6) (y (overlaid (pick m 3) v (three-from 0 m)) g)
+
+-- truth values 4 to 6 the slot's rights, 7 to 9, where stage 2 grants something, what it grants
 abbrev mixed : (LevelRights → LevelRights → LevelAnswer) → List Bool → LevelAnswer
-mixed y m = whenRights (slotted y (slotRights 7) m) (slotted y (three (pick m 4) (pick m 5) (pick m 6)) m)
+mixed y m = whenRights (slotted y (slotRights 7) (three-from 7 m) m) (slotted y (three-from 4 m) (three-from 7 m) m)
 
 abbrev ruled : (LevelRights → LevelRights → LevelAnswer) → List Bool → LevelAnswer
-ruled y m = betweenOf (slotted y (slotRights 7) m) (slotted y (slotRights 0) m) (three (pick m 4) (pick m 5) (pick m 6))
-
-abbrev values : LevelRights → Bool → LevelRights → LevelRights → List Bool
-values r on v g =
-    r .read ∷ r .write ∷ r .execute ∷ on ∷ v .read ∷ v .write ∷ v .execute ∷ g .read ∷ g .write ∷ g .execute ∷ []
+ruled y m =
+    betweenOf (slotted y (slotRights 7) (three-from 7 m) m) (slotted y (slotRights 0) (three-from 7 m) m) (three-from 4 m)
 
 rule : (r : LevelRights) (on : Bool) (v : ℕ) (t : Stage2Pass) (l : Level) → v < 8
     → whenRights (passLevel r on 7 t l) (passLevel r on v t l) ≡ betweenOf (passLevel r on 7 t l) (passLevel r on 0 t l) (slotRights v)
 rule r on v (two.Granted g) l h =
     let y : LevelRights → LevelRights → LevelAnswer = λ a b. Rights (both a b) in
-    rw (lt-leb 8 v h) (each (values r on (slotRights v) (levelIn g l)) (mixed y) (ruled y) refl)
+    rw (lt-leb 8 v h) (each (values r (on ∷ values (slotRights v) (values (levelIn g l) []))) (mixed y) (ruled y) refl)
 rule r on v two.Nothing l h =
     let y : LevelRights → LevelRights → LevelAnswer = λ a b. Rights none in
-    rw (lt-leb 8 v h) (each (values r on (slotRights v) none) (mixed y) (ruled y) refl)
+    rw (lt-leb 8 v h) (each (values r (on ∷ values (slotRights v) [])) (mixed y) (ruled y) refl)
 rule r on v (two.Refused n) l h =
     let y : LevelRights → LevelRights → LevelAnswer = λ a b. cond (any a) (Refused n) (Rights none) in
-    rw (lt-leb 8 v h) (each (values r on (slotRights v) none) (mixed y) (ruled y) refl)
+    rw (lt-leb 8 v h) (each (values r (on ∷ values (slotRights v) [])) (mixed y) (ruled y) refl)
 
 rule-with : (o : LevelBits) (x : Stage1Pass) (v : ℕ) (t : Stage2Pass) (l : Level) → v < 8
     → whenRights (passWith o x 7 t l) (passWith o x v t l) ≡ betweenOf (passWith o x 7 t l) (passWith o x 0 t l) (slotRights v)
@@ -129,13 +127,14 @@ stays (Rights f) (Rights b) = true
 stays (Rights f) (Refused n) = false
 stays (Refused n) b = true
 
+-- truth values 4 to 6, where stage 2 grants something, what it grants
 abbrev staying : (LevelRights → LevelRights → LevelAnswer) → List Bool → Bool
-staying y m = stays (slotted y (slotRights 7) m) (slotted y (slotRights 0) m)
+staying y m = stays (slotted y (slotRights 7) (three-from 4 m) m) (slotted y (slotRights 0) (three-from 4 m) m)
 
 stay : (r : LevelRights) (on : Bool) (t : Stage2Pass) (l : Level) → stays (passLevel r on 7 t l) (passLevel r on 0 t l) ≡ true
-stay r on (two.Granted g) l = each (values r on none (levelIn g l)) (staying (λ a b. Rights (both a b))) (λ m. true) refl
-stay r on two.Nothing l = each (values r on none none) (staying (λ a b. Rights none)) (λ m. true) refl
-stay r on (two.Refused n) l = each (values r on none none) (staying (λ a b. cond (any a) (Refused n) (Rights none))) (λ m. true) refl
+stay r on (two.Granted g) l = each (values r (on ∷ values (levelIn g l) [])) (staying (λ a b. Rights (both a b))) (λ m. true) refl
+stay r on two.Nothing l = each (values r (on ∷ [])) (staying (λ a b. Rights none)) (λ m. true) refl
+stay r on (two.Refused n) l = each (values r (on ∷ [])) (staying (λ a b. cond (any a) (Refused n) (Rights none))) (λ m. true) refl
 
 stay-with : (o : LevelBits) (x : Stage1Pass) (t : Stage2Pass) (l : Level) → stays (passWith o x 7 t l) (passWith o x 0 t l) ≡ true
 stay-with o (one.Granted b) t l = stay (levelIn (b .rights) l) (bitOf o l && bitOf (b .overlay) l) t l
