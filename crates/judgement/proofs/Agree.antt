@@ -20,7 +20,7 @@ use Rattle.levels.proofs.Levels.{refused-permits}
 use Rattle.answers.specs.Answers.{follow, permitted}
 use Rattle.checks.specs.Checks.{setupCheck, accessCheck, leafCheck}
 use Rattle.levels.specs.Level.{unlessRefused, collect, levelOf, levelsOf}
-use Rattle.rights.specs.Order.{leafAnswer, rightsAnswer}
+use Rattle.steps.specs.Order.{leafAnswer, rightsAnswer}
 use Rattle.checks.specs.declared.AccessCheck.the-variants as access
 use Rattle.stages.specs.LevelRights.{three}
 use Rattle.answers.specs.declared.Answer.{Answer}

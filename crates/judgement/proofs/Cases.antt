@@ -9,9 +9,9 @@ use Rattle.setups.specs.Setup.{controlOf, setupFrom, setupOf, readSetup}
 use Rattle.permissions.specs.Base.{baseOf}
 use Rattle.permissions.specs.Direct.{ap, directTwo, directOne, directOf}
 use Rattle.checks.specs.Checks.{setupCheck, accessCheck, leafCheck}
-use Rattle.stage1.specs.Stage1.{stage1Answer}
-use Rattle.rights.specs.Order.{stagesAnswer, rightsAnswer}
-use Rattle.stage2.specs.Stage2.{xnPx, xnUx, stage2Rights, stage2Answer}
+use Rattle.steps.specs.Stage1.{stage1Answer}
+use Rattle.steps.specs.Order.{stagesAnswer, rightsAnswer}
+use Rattle.steps.specs.Stage2.{xnPx, xnUx, stage2Rights, stage2Answer}
 use Rattle.memory.specs.Combine.{combine, resultOf, resultByte}
 use Rattle.memory.specs.Mair.{mairByte, offByte, stage1Byte, reservedByte}
 use Rattle.memory.specs.Order.{memoryOf, attributesOf}

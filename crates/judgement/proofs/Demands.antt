@@ -22,10 +22,10 @@ use Rattle.records.specs.declared.leaf.LeafRead.the-variants as leaf
 use Rattle.setups.specs.declared.Setup.{Setup}
 use Rattle.setups.specs.declared.SetupRead.{SetupRead}
 use Rattle.setups.specs.declared.SetupRead.the-variants as setup
-use Rattle.rights.proofs.Named.{Named, permits, faults, refuses, named, stages-answer}
+use Rattle.steps.proofs.Named.{Named, permits, faults, refuses, named, stages-answer}
 use Rattle.answers.specs.Answers.{follow}
 use Rattle.checks.specs.Checks.{setupCheck}
-use Rattle.rights.specs.Order.{stagesAnswer, leafAnswer, rightsAnswer}
+use Rattle.steps.specs.Order.{stagesAnswer, leafAnswer, rightsAnswer}
 use Rattle.answers.specs.declared.Answer.{Answer}
 use Rattle.answers.specs.declared.Answer.the-variants as answer
 use Rattle.answers.specs.declared.Fault.{Fault}

@@ -15,8 +15,8 @@ use Rattle.records.specs.declared.leaf.Leaf.{Leaf}
 use Rattle.records.specs.declared.leaf.LeafRead.the-variants as leaf
 use Rattle.setups.specs.declared.Setup.{Setup}
 use Rattle.setups.specs.declared.SetupRead.the-variants as setup
-use Rattle.stage1.specs.Stage1.{stage1Answer}
-use Rattle.stage2.specs.Stage2.{stage2Answer}
+use Rattle.steps.specs.Stage1.{stage1Answer}
+use Rattle.steps.specs.Stage2.{stage2Answer}
 use Rattle.answers.specs.declared.Answer.{Answer}
 use Rattle.answers.specs.declared.Answer.the-variants as answer
 use Rattle.answers.specs.declared.Fault.{Fault}

@@ -12,7 +12,7 @@ use Rattle.records.specs.declared.leaf.LeafRead.the-variants as leaf
 use Rattle.setups.specs.declared.Setup.{Setup}
 use Rattle.setups.specs.declared.SetupRead.{SetupRead}
 use Rattle.setups.specs.declared.SetupRead.the-variants as setup
-use Rattle.rights.specs.Order.{rightsAnswer}
+use Rattle.steps.specs.Order.{rightsAnswer}
 use Rattle.answers.specs.declared.Answer.{Answer}
 use Rattle.answers.specs.declared.Answer.the-variants as answer
 use Rattle.memory.specs.Order.{attributesOf}

@@ -72,7 +72,7 @@ pub fn leaf_rights(q: Words, base: &[u16; 16], l: Leaf) -> LeafRights
     let d = l.stage1;
     let e = l.stage2;
     let first = stage1_word::mask_of(stage1_word::stage1_word(base, w, d, l.limits));
-    let second = pass::stage2_mask(w, e);
+    let second = stage2_mask::stage2_mask(w, e);
     let i = POIndex::of(d);
     let p = i.slot(q.por.privileged);
     let u = i.slot(q.por.unprivileged);

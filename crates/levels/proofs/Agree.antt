@@ -24,12 +24,12 @@ use Rattle.permissions.specs.declared.BaseAnswer.{BaseAnswer}
 use Rattle.permissions.specs.declared.BaseAnswer.the-variants as base
 use Rattle.answers.specs.Answers.{follow, faultOf, faultUnless, refuseIf, descriptorAnswer, permitted}
 use Rattle.levels.specs.Level.{collect, levelOf}
-use Rattle.stage1.specs.Stage1.{dirty, baseAnswer, stage1Answer}
-use Rattle.rights.specs.Order.{stagesAnswer}
+use Rattle.steps.specs.Stage1.{dirty, baseAnswer, stage1Answer}
+use Rattle.steps.specs.Order.{stagesAnswer}
 use Rattle.stages.specs.LevelRights.{three, levelIn, hasRight}
 use Rattle.overlays.specs.Overlay.{bitOf, registerOf, slotAnswer}
 use Rattle.levels.specs.Pass.{everything, fromBase, stage1Pass, stage2Pass, none, any, both, overlaid, passLevel, passWith, pass}
-use Rattle.stage2.specs.Stage2.{stage2Rights, stage2Answer}
+use Rattle.steps.specs.Stage2.{stage2Rights, stage2Answer}
 use Rattle.answers.specs.declared.Answer.{Answer}
 use Rattle.answers.specs.declared.Answer.the-variants.{Permitted, Refused}
 use Rattle.answers.specs.declared.Kind.{Kind}

@@ -16,7 +16,7 @@ use Rattle.setups.specs.declared.Setup.{Setup}
 use Rattle.levels.proofs.Agree.{none-left}
 use Rattle.answers.specs.Answers.{permitted}
 use Rattle.levels.specs.Level.{unlessRefused, collect, levelOf}
-use Rattle.rights.specs.Order.{stagesAnswer}
+use Rattle.steps.specs.Order.{stagesAnswer}
 use Rattle.stages.specs.LevelRights.{three, hasRight}
 use Rattle.answers.specs.declared.Answer.{Answer}
 use Rattle.answers.specs.declared.Answer.the-variants as answer

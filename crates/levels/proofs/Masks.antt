@@ -35,7 +35,7 @@ use Rattle.permissions.specs.declared.Rights.{Rights}
 use Rattle.stages.specs.LevelRights.{three, levelIn}
 use Rattle.overlays.specs.Overlay.{bitOf, registerOf, slotRights}
 use Rattle.levels.specs.Masks.{levelBits, levelMask, setupWith, stage1Mask, stage2Mask, bitsIn, appliesIn, slotTable, stage2Table, stage2Left, slotLeft, maskWith, rangeMask, rangeWith}
-use Rattle.stage2.specs.Stage2.{xnPx, xnUx, stage2Rights}
+use Rattle.steps.specs.Stage2.{xnPx, xnUx, stage2Rights}
 use Rattle.levels.proofs.Agree.{agree}
 use Rattle.levels.proofs.Ranges.{with-register, open-slot, shut-slot}
 use Rattle.levels.specs.Level.{levelOf, rangeFrom, rangeOf}

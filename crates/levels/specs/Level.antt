@@ -12,7 +12,7 @@ use Rattle.descriptors.specs.declared.Stage1.{Stage1}
 use Rattle.descriptors.specs.declared.Stage2.{Stage2}
 use Rattle.setups.specs.declared.Setup.{Setup}
 use Rattle.answers.specs.Answers.{permitted}
-use Rattle.rights.specs.Order.{stagesAnswer}
+use Rattle.steps.specs.Order.{stagesAnswer}
 use Rattle.stages.specs.LevelRights.{three}
 use Rattle.overlays.specs.Overlay.{slotRights}
 use Rattle.levels.specs.Register.{put, allOpen}

@@ -16,10 +16,10 @@ use Rattle.permissions.specs.declared.Base.{Base}
 use Rattle.permissions.specs.declared.BaseAnswer.{BaseAnswer}
 use Rattle.permissions.specs.declared.BaseAnswer.the-variants as base
 use Rattle.permissions.specs.declared.Rights.{Rights as SixRights}
-use Rattle.stage1.specs.Stage1.{dirty}
+use Rattle.steps.specs.Stage1.{dirty}
 use Rattle.stages.specs.LevelRights.{three, levelIn}
 use Rattle.overlays.specs.Overlay.{bitOf, registerOf, slotRights}
-use Rattle.stage2.specs.Stage2.{stage2Rights}
+use Rattle.steps.specs.Stage2.{stage2Rights}
 use Rattle.levels.specs.declared.Stage1Pass.{Stage1Pass}
 use Rattle.levels.specs.declared.Stage1Pass.the-variants as one
 use Rattle.levels.specs.declared.Stage2Pass.{Stage2Pass}

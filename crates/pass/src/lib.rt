@@ -1,36 +1,13 @@
-// All rights of a leaf in one pass, as bits of a number: stage 2, and a level's overlay. Part of the rights layer. No public function has a
-// `requires`.
+// All rights of a level in one pass, as bits of a number: from those of both stages, with the level's overlay. Part of the rights layer. No
+// public function has a `requires`.
 ghost use mathlib.Core.Path.{_≡_};
 ghost use Prim.Native.Nat.{_<_};
-ghost use Rattle.descriptors.specs.Bits.{bit};
-ghost use Rattle.descriptors.specs.Descriptor.{stage2Of};
-ghost use Rattle.levels.specs.Masks.{stage2Mask, bitsIn, appliesIn, grants, stage2Left, slotLeft, maskWith};
-ghost use Rattle.levels.specs.Pass.{stage2Pass};
+ghost use Rattle.levels.specs.Masks.{bitsIn, appliesIn, grants, stage2Left, slotLeft, maskWith};
 use accesses::Level;
 use permissions::Mask;
 
-// Stage 2's rights by S2AP and XN.
-const STAGE2: [u8; 16] = [36, 45, 54, 63, 32, 41, 50, 59, 0, 9, 18, 27, 4, 13, 22, 31];
-
 // What slots 0 to 7 grant: their bits are R, X, W.
 const SLOTS: [u8; 8] = [0, 1, 4, 5, 2, 3, 6, 7];
-
-// Stage 2: `w` is the control word, `e` is the descriptor.
-pub fn stage2_mask(w: u32, e: u64) -> Mask
-    ensures { λ r. ⌜ r ≡ stage2Mask (stage2Pass (bit w 2) (stage2Of e)) ⌝ }
-{
-    if (w >> 2) % 2 == 1 {
-        if ((e >> 0) % 2 == 1) & ((e >> 10) % 2 == 1) {
-            if (e >> 51) % 2 == 1 {
-                return Mask::Refused(7);
-            }
-            let i = ((e >> 6) % 4 + (e >> 53) % 4 * 4) as usize;
-            return Mask::Granted(STAGE2[i]);
-        }
-        return Mask::Granted(0);
-    }
-    Mask::Granted(63)
-}
 
 // The rights of a level among six.
 fn bits_in(m: u8, l: Level) -> u8

@@ -19,7 +19,7 @@ use Rattle.levels.proofs.Levels.{access-not-refused}
 use Rattle.levels.proofs.Ranges.{open-slot, rights-with}
 use Rattle.checks.specs.Checks.{leafCheck}
 use Rattle.levels.specs.Level.{rangeOf, between}
-use Rattle.rights.specs.Order.{leafAnswer}
+use Rattle.steps.specs.Order.{leafAnswer}
 use Rattle.levels.specs.Register.{put, allOpen}
 use Rattle.answers.specs.declared.Answer.the-variants as answer
 use Rattle.levels.specs.declared.LevelRange.{LevelRange}

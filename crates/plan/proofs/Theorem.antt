@@ -19,7 +19,7 @@ use Rattle.accesses.specs.declared.Right.{Right}
 use Rattle.accesses.specs.declared.Right.the-variants.{Read, Write, Execute}
 use Rattle.setups.specs.declared.Setup.{Setup}
 use Rattle.answers.specs.Answers.{permitted}
-use Rattle.rights.specs.Order.{leafAnswer}
+use Rattle.steps.specs.Order.{leafAnswer}
 use Rattle.stages.specs.LevelRights.{hasRight}
 use Rattle.levels.specs.Register.{put}
 use Rattle.stages.specs.declared.LevelRights.{LevelRights}

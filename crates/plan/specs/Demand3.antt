@@ -18,7 +18,7 @@ use Rattle.setups.specs.declared.Setup.{Setup}
 use Rattle.setups.specs.declared.SetupRead.the-variants as setup
 use Rattle.answers.specs.Answers.{permitted}
 use Rattle.checks.specs.Checks.{setupCheck, levelCheck, leafCheck}
-use Rattle.rights.specs.Order.{leafAnswer}
+use Rattle.steps.specs.Order.{leafAnswer}
 use Rattle.overlays.specs.Overlay.{bitOf}
 use Rattle.levels.specs.Register.{put, allOpen}
 use Rattle.answers.specs.declared.Answer.the-variants as answer

@@ -75,7 +75,7 @@ pub fn quick_rights(
         return 64;
     };
     let i = POIndex::of(d).place();
-    let s = both_bits(m, slots[i], slots[i + 8], pass::stage2_mask(w, e));
+    let s = both_bits(m, slots[i], slots[i + 8], stage2_mask::stage2_mask(w, e));
     if 64 <= s {
         return 64;
     }

@@ -43,7 +43,7 @@ pub fn level_range(w: u32, base: &[u16; 16], d: u64, e: u64, t: u8, l: Level) ->
 {
     let on = overlay_on(w, l);
     let first = stage1_word::mask_of(stage1_word::stage1_word(base, w, d, t));
-    let second = pass::stage2_mask(w, e);
+    let second = stage2_mask::stage2_mask(w, e);
     let i = POIndex::of(d);
     range_with(
         i.place(),

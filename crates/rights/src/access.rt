@@ -1,9 +1,9 @@
 // One access, step by step: the first fault or refusal is the answer.
 ghost use mathlib.Core.Path.{_≡_};
 ghost use mathlib.Core.Bool.{cond};
-ghost use Rattle.stage2.specs.Stage2.{stage2Answer};
-ghost use Rattle.stage1.specs.Stage1.{stage1Answer};
-ghost use Rattle.rights.specs.Order.{stagesAnswer, leafAnswer, accessRefusal, rightsAnswer};
+ghost use Rattle.steps.specs.Stage2.{stage2Answer};
+ghost use Rattle.steps.specs.Stage1.{stage1Answer};
+ghost use Rattle.steps.specs.Order.{stagesAnswer, leafAnswer, accessRefusal, rightsAnswer};
 use accesses::Access;
 use answers::Answer;
 use checks::AccessCheck;

@@ -20,9 +20,9 @@ use Rattle.accesses.specs.declared.Right.the-variants.{Read, Write, Execute}
 use Rattle.records.specs.declared.leaf.Leaf.{Leaf}
 use Rattle.setups.specs.declared.Setup.{Setup}
 use Rattle.setups.specs.declared.SetupRead.the-variants as setup
-use Rattle.rights.proofs.Named.{stages-answer}
+use Rattle.steps.proofs.Named.{stages-answer}
 use Rattle.answers.specs.Answers.{permitted}
-use Rattle.rights.specs.Order.{leafAnswer, rightsAnswer}
+use Rattle.steps.specs.Order.{leafAnswer, rightsAnswer}
 use Rattle.levels.specs.Register.{put}
 use Rattle.answers.specs.declared.Answer.{Answer}
 use Rattle.answers.specs.declared.Answer.the-variants as answer

@@ -2,8 +2,7 @@
 // `requires`.
 ghost use mathlib.Core.Path.{_≡_};
 ghost use Rattle.stages.specs.LevelRights.{has};
-ghost use Rattle.stage1.specs.Stage1.{dirty, baseAnswer, stage1Answer};
-use crate::overlay::overlay_answer;
+ghost use Rattle.steps.specs.Stage1.{dirty, baseAnswer, stage1Answer};
 use accesses::Access;
 use answers::Answer;
 use answers::Kind;
@@ -11,12 +10,11 @@ use answers::descriptor_answer;
 use answers::fault_unless;
 use descriptors::Limits;
 use descriptors::Stage1;
+use overlay_steps::overlay_answer;
 use permissions::BaseAnswer;
 use setups::Control;
 use setups::Setup;
 use stages::has;
-
-mod overlay;
 
 // From the base rights on: base codes 6 and 7, Permission fault, overlay.
 fn base_answer(s: Setup, d: Stage1, a: Access, base: BaseAnswer) -> Answer

@@ -8,7 +8,7 @@ use lib.Dec.{eqb, ltb}
 use lib.ListN.{List·getD-eq-default}
 use borrow.Author.Tests.{ltb-true, ltb-false, le-ltb, ne-eqb}
 use Rattle.records.proofs.Cases.{at}
-use Rattle.stage2.specs.Stage2.{xnPx, xnUx}
+use Rattle.steps.specs.Stage2.{xnPx, xnUx}
 
 pub px-is : (n : ℕ) → xnPx n ≡ (eqb n 0 || eqb n 3)
 unfolding xnPx

@@ -2,8 +2,8 @@
 // function has a `requires`.
 ghost use mathlib.Core.Path.{_≡_};
 ghost use Rattle.stages.specs.LevelRights.{has};
-ghost use Rattle.stage2.specs.Stage2.{stage2Rights};
-ghost use Rattle.stage2.specs.Stage2.{stage2Answer};
+ghost use Rattle.steps.specs.Stage2.{stage2Rights};
+ghost use Rattle.steps.specs.Stage2.{stage2Answer};
 use accesses::Access;
 use answers::Answer;
 use answers::Kind;

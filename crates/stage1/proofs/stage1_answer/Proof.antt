@@ -1,5 +1,5 @@
 -- `stage1_answer` meets its contract: a fault or refusal of the first steps stands. Assumes nothing.
-use Rattle.stage1.specs.Stage1.{stage1Answer}
+use Rattle.steps.specs.Stage1.{stage1Answer}
 use Rattle.answers.proofs.Steps.{stands}
 use borrow.Author.Needs.{needs}
 use Rattle.stage1.proofs.stage1_answer.Statement.{statement}

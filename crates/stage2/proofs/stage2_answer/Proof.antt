@@ -1,5 +1,5 @@
 -- `stage2_answer` meets its contract: a fault or refusal of the first steps stands. Assumes nothing.
-use Rattle.stage2.specs.Stage2.{stage2Answer}
+use Rattle.steps.specs.Stage2.{stage2Answer}
 use Rattle.answers.proofs.Steps.{stands}
 use borrow.Author.Needs.{needs}
 use Rattle.stage2.proofs.stage2_answer.Statement.{statement}

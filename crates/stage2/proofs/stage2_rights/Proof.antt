@@ -1,5 +1,5 @@
 -- `stage2_rights` meets its contract: XN's table is checked over its four values; above them neither has a right. Assumes nothing.
-use Rattle.stage2.specs.Stage2.{stage2Rights}
+use Rattle.steps.specs.Stage2.{stage2Rights}
 use Rattle.stage2.proofs.Tables.{px-is, ux-is}
 use Rattle.stage2.proofs.stage2_rights.Statement.{statement}
 use Rattle.stage2.proofs.stage2_rights.Tie as tie

@@ -1,6 +1,6 @@
 -- `access::judge_rights` meets its contract: the first fault or refusal stands. Assumes nothing.
 use borrow.Author.Needs.{needs}
-use Rattle.rights.specs.Order.{rightsAnswer}
+use Rattle.steps.specs.Order.{rightsAnswer}
 use Rattle.answers.proofs.Steps.{stands}
 use Rattle.rights.proofs.access.judge_rights.Statement.{statement}
 use Rattle.rights.proofs.access.judge_rights.Tie as tie

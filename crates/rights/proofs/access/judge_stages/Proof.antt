@@ -1,5 +1,5 @@
 -- `access::judge_stages` meets its contract: stage 1's fault or refusal stands before stage 2. Assumes nothing.
-use Rattle.rights.specs.Order.{stagesAnswer}
+use Rattle.steps.specs.Order.{stagesAnswer}
 use Rattle.answers.proofs.Steps.{stands}
 use borrow.Author.Needs.{needs}
 use Rattle.rights.proofs.access.judge_stages.Statement.{statement}

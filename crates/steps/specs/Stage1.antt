@@ -1,18 +1,16 @@
 -- Document 01, 'The order a judgement is made in', stage 1: its steps for one access. Assumes nothing.
-use mathlib.Core.Bool.{Bool, cond, _&&_}
-use Rattle.descriptors.specs.Descriptor.{slotAt}
+use mathlib.Core.Bool.{Bool, cond}
 use Rattle.accesses.specs.declared.Access.{Access}
 use Rattle.descriptors.specs.declared.Limits.{Limits}
 use Rattle.descriptors.specs.declared.Stage1.{Stage1}
 use Rattle.setups.specs.declared.Control.{Control}
 use Rattle.setups.specs.declared.Setup.{Setup}
 use Rattle.permissions.specs.Base.{baseOf}
-use Rattle.permissions.specs.declared.Base.{Base}
 use Rattle.permissions.specs.declared.BaseAnswer.{BaseAnswer}
 use Rattle.permissions.specs.declared.BaseAnswer.the-variants as base
 use Rattle.answers.specs.Answers.{follow, faultUnless, descriptorAnswer}
 use Rattle.stages.specs.LevelRights.{has}
-use Rattle.overlays.specs.Overlay.{bitOf, registerOf, slotAnswer}
+use Rattle.overlays.specs.Overlay.{overlayAnswer}
 use Rattle.answers.specs.declared.Answer.{Answer}
 use Rattle.answers.specs.declared.Answer.the-variants.{Refused}
 use Rattle.answers.specs.declared.Kind.the-variants.{Permission}
@@ -20,12 +18,6 @@ use Rattle.answers.specs.declared.Kind.the-variants.{Permission}
 -- dirty state at stage 1: bit 51 set under Direct, bit 7 under Indirect
 abbrev pub dirty : Control → Stage1 → Bool
 dirty c d = cond (c .indirect) (d .bit7) (d .bit51)
-
--- the overlay: on for the access's level, and applying to the base right; the slot at POIndex in that level's POR
-abbrev pub overlayAnswer : Setup → Stage1 → Base → Access → Answer
-overlayAnswer s d b a =
-    slotAnswer (bitOf (s .control .overlay) (a .level) && bitOf (b .overlay) (a .level))
-    (slotAt (registerOf (s .por) (a .level)) (d .poindex)) (a .right)
 
 -- base codes 6, then 7 (in that order by baseOf); Permission fault; overlay code 6; Overlay fault
 abbrev pub baseAnswer : Setup → Stage1 → Access → BaseAnswer → Answer

@@ -10,12 +10,12 @@ use Rattle.descriptors.specs.declared.Stage2.{Stage2}
 use Rattle.setups.specs.declared.Setup.{Setup}
 use Rattle.answers.specs.Answers.{follow}
 use Rattle.checks.specs.Checks.{setupCheck, accessCheck, leafCheck}
-use Rattle.stage2.specs.Stage2.{stage2Answer}
+use Rattle.steps.specs.Stage2.{stage2Answer}
 use Rattle.answers.specs.declared.Answer.{Answer}
 use Rattle.answers.specs.declared.Answer.the-variants.{Permitted, Refused}
 use Rattle.checks.specs.declared.AccessCheck.{AccessCheck}
 use Rattle.checks.specs.declared.AccessCheck.the-variants as access
-use Rattle.stage1.specs.Stage1.{stage1Answer}
+use Rattle.steps.specs.Stage1.{stage1Answer}
 
 -- stage 1, if on, then stage 2, if on. A stage that is off permits everything, and its descriptor is ignored
 unfoldable pub stagesAnswer : Setup → Stage1 → Stage2 → Limits → Access → Answer

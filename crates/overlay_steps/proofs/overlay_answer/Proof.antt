@@ -1,7 +1,7 @@
 -- `overlay::overlay_answer` meets its contract: the parts of its level. Assumes nothing.
 use borrow.Author.Needs.{needs}
-use Rattle.stage1.proofs.overlay.overlay_answer.Statement.{statement}
-use Rattle.stage1.proofs.overlay.overlay_answer.Tie as tie
+use Rattle.overlay_steps.proofs.overlay_answer.Statement.{statement}
+use Rattle.overlay_steps.proofs.overlay_answer.Tie as tie
 
 register-of-requires : tie.Need-register-of-requires
 register-of-requires c κs = search needs

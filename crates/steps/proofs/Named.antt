@@ -24,11 +24,11 @@ use Rattle.permissions.specs.declared.BaseAnswer.{BaseAnswer}
 use Rattle.permissions.specs.declared.BaseAnswer.the-variants as base
 use Rattle.answers.specs.Answers.{follow, faultUnless, refuseIf, descriptorAnswer}
 use Rattle.checks.specs.Checks.{clash, unjudged, setupCheck, accessCheck, leafCheck}
-use Rattle.stage1.specs.Stage1.{dirty, baseAnswer, stage1Answer}
-use Rattle.rights.specs.Order.{stagesAnswer, leafAnswer, afterAccess, rightsAnswer}
+use Rattle.steps.specs.Stage1.{dirty, baseAnswer, stage1Answer}
+use Rattle.steps.specs.Order.{stagesAnswer, leafAnswer, afterAccess, rightsAnswer}
 use Rattle.stages.specs.LevelRights.{hasRight, has}
 use Rattle.overlays.specs.Overlay.{bitOf, registerOf, slotRights, slotAnswer}
-use Rattle.stage2.specs.Stage2.{stage2Rights, stage2Answer}
+use Rattle.steps.specs.Stage2.{stage2Rights, stage2Answer}
 use Rattle.answers.specs.declared.Answer.{Answer}
 use Rattle.answers.specs.declared.Answer.the-variants.{Permitted, Fault, Refused}
 use Rattle.answers.specs.declared.Fault.{Fault as FaultOf}

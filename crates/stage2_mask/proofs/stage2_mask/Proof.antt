@@ -7,8 +7,8 @@ use Rattle.levels.proofs.Masks.{stage2-table, stage2-grants}
 use mathlib.Core.Path.{sym, ap, _∙_}
 use Rattle.permissions.specs.declared.Mask.the-variants.{Granted}
 use borrow.Author.Needs.{needs}
-use Rattle.pass.proofs.stage2_mask.Statement.{statement}
-use Rattle.pass.proofs.stage2_mask.Tie as tie
+use Rattle.stage2_mask.proofs.stage2_mask.Statement.{statement}
+use Rattle.stage2_mask.proofs.stage2_mask.Tie as tie
 
 returns : tie.Need-returns
 unfolding stage2Of stage2Pass

@@ -1,7 +1,6 @@
-// The overlay of one access.
+// The overlay of one access: a reserved slot, then an Overlay fault. Part of the rights layer. The public function has no `requires`.
 ghost use mathlib.Core.Path.{_≡_};
-ghost use Rattle.overlays.specs.Overlay.{slotAnswer};
-ghost use Rattle.stage1.specs.Stage1.{overlayAnswer};
+ghost use Rattle.overlays.specs.Overlay.{slotAnswer, overlayAnswer};
 use accesses::Access;
 use accesses::Right;
 use answers::Answer;

@@ -1,8 +1,8 @@
 -- `overlay::slot_answer` meets its contract: a reserved slot stands before an Overlay fault. Assumes nothing.
 use Rattle.answers.proofs.Steps.{stands}
 use borrow.Author.Needs.{needs}
-use Rattle.stage1.proofs.overlay.slot_answer.Statement.{statement}
-use Rattle.stage1.proofs.overlay.slot_answer.Tie as tie
+use Rattle.overlay_steps.proofs.slot_answer.Statement.{statement}
+use Rattle.overlay_steps.proofs.slot_answer.Tie as tie
 
 refuse-if-requires : tie.Need-refuse-if-requires
 refuse-if-requires c κs = search needs

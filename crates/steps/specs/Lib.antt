@@ -1,0 +1,3 @@
+pub mod Stage1
+pub mod Stage2
+pub mod Order
