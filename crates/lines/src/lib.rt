@@ -30,7 +30,7 @@ pub enum Item {
     },
 }
 
-// Where there is room.
+// Puts an item where there is room.
 fn put_here(out: &mut [u8], at: usize, item: Item) -> usize
     requires { ⌜ at + 64 ≤ length (now out) ⌝ }
     ensures { λ r. ⌜ Put (now (out .entry)) at (itemText item) (now (out .exit)) r ⌝ }

@@ -5,8 +5,8 @@ ghost use Prim.Native.Nat.{_+_, _*_, _≤_, _<_};
 ghost use lib.ListN.{length};
 ghost use Rattle.io.specs.Counts.{Counts};
 ghost use Rattle.lines.specs.Items.{refusalLine, leafLine};
-ghost use Rattle.text.specs.Listing.{lineAt, linesFrom, planLine, planLines, mapLines, mapText, written};
 ghost use Rattle.lines.specs.Put.{Put};
+ghost use Rattle.text.specs.Listing.{lineAt, linesFrom, planLine, planLines, mapLines, mapText, written};
 use judgement::Listed;
 use lines::Item;
 use lines::put_item;
@@ -30,6 +30,7 @@ fn put_leaf(out: &mut [u8], at: usize, index: usize, rights: u8, forbidden: u8) 
     )
 }
 
+// The line of a refusal.
 fn put_refusal(out: &mut [u8], at: usize, number: u8, leaf: usize) -> usize
     requires { ⌜ at + 64 ≤ length (now out) ⌝ }
     ensures text { λ r. ⌜ Put (now (out .entry)) at (refusalLine number leaf) (now (out .exit)) r ⌝ }
