@@ -22,10 +22,11 @@ use Rattle.records.specs.declared.leaf.LeafRead.the-variants as leaf
 use Rattle.setups.specs.declared.Setup.{Setup}
 use Rattle.setups.specs.declared.SetupRead.{SetupRead}
 use Rattle.setups.specs.declared.SetupRead.the-variants as setup
+use Rattle.steps.proofs.Order.{stages-as}
 use Rattle.steps.proofs.Named.{Named, permits, faults, refuses, named, stages-answer}
 use Rattle.answers.specs.Answers.{follow}
 use Rattle.checks.specs.Checks.{setupCheck}
-use Rattle.steps.specs.Order.{stagesAnswer, leafAnswer, rightsAnswer}
+use Rattle.steps.specs.Order.{leafAnswer, rightsAnswer}
 use Rattle.answers.specs.declared.Answer.{Answer}
 use Rattle.answers.specs.declared.Answer.the-variants as answer
 use Rattle.answers.specs.declared.Fault.{Fault}
@@ -107,13 +108,13 @@ module _ (s : Setup) (l : Leaf) (n : ℕ) (whole : (k : ℕ) → judged s l n �
 
   -- 1 to 5 leave the answer to the stages
   by-stages : judged s l n ≡ after (follow (stage1 s l n) (stage2 s l n)) typed
-  unfolding judged stagesAnswer
+  unfolding judged
   by-stages = go (stages-answer s l n)
     where
       go : ((k : ℕ) × (rightsAnswer s l n ≡ answer.Refused k)) ⊎ (rightsAnswer s l n ≡ leafAnswer s l (accessAt n))
           → judged s l n ≡ after (follow (stage1 s l n) (stage2 s l n)) typed
       go (inl (k, e)) = absurd (whole k (rw e))
-      go (inr e) = rw e
+      go (inr e) = rw (e, stages-as s _ _ _ (accessAt n) (stage1 s l n) refl)
 
   -- the attribute steps of an access that reaches them refuse nothing
   not-refused : judged s l n ≡ typed → typed ≡ judgement.Allowed memory

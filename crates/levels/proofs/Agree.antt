@@ -110,20 +110,21 @@ abbrev answer : Bool → Bool → Bool → Bool → Answer → Answer
 answer b on reserved v y =
     follow (follow (faultUnless b 1 Permission) (cond on (follow (refuseIf reserved 6) (faultUnless v 1 Overlay)) Permitted)) y
 
-abbrev at : List Bool → ℕ → Bool
-at m k = getD m k false
+-- truth value k of a list
+abbrev pub pick : List Bool → ℕ → Bool
+pick m k = getD m k false
 
 -- three accesses, and the pass: truth values 0 to 2 base rights, 3 overlay on, 4 slot reserved, 5 to 7 the slot's rights, 8 to 10, where
 -- stage 2 grants something, what it grants
 abbrev accesses : (Bool → Answer) → List Bool → LevelAnswer
 accesses y m =
-    collect (answer (at m 0) (at m 3) (at m 4) (at m 5) (y (at m 8))) (answer (at m 1) (at m 3) (at m 4) (at m 6) (y (at m 9)))
-    (answer (at m 2) (at m 3) (at m 4) (at m 7) (y (at m 10)))
+    collect (answer (pick m 0) (pick m 3) (pick m 4) (pick m 5) (y (pick m 8))) (answer (pick m 1) (pick m 3) (pick m 4) (pick m 6) (y (pick m 9)))
+    (answer (pick m 2) (pick m 3) (pick m 4) (pick m 7) (y (pick m 10)))
 
 abbrev passed : (LevelRights → LevelRights → LevelAnswer) → List Bool → LevelAnswer
 passed y m =
-    cond (at m 3 && at m 4 && any (three (at m 0) (at m 1) (at m 2))) (level.Refused 6)
-    (y (overlaid (at m 3) (three (at m 5) (at m 6) (at m 7)) (three (at m 0) (at m 1) (at m 2))) (three (at m 8) (at m 9) (at m 10)))
+    cond (pick m 3 && pick m 4 && any (three (pick m 0) (pick m 1) (pick m 2))) (level.Refused 6)
+    (y (overlaid (pick m 3) (three (pick m 5) (pick m 6) (pick m 7)) (three (pick m 0) (pick m 1) (pick m 2))) (three (pick m 8) (pick m 9) (pick m 10)))
 
 -- rights, and the truth values after them
 abbrev pub values : LevelRights → List Bool → List Bool
@@ -137,10 +138,10 @@ slot v m = bit v 0 ∷ bit v 2 ∷ bit v 1 ∷ m
 -- in the first two the slot's rights are not seen
 module _ {A : Type 0} (f g : List Bool → A) (r s : LevelRights) (v : ℕ) where
   abbrev unseen : Bool → Bool → List Bool → List Bool
-  unseen o z m = at m 0 ∷ at m 1 ∷ at m 2 ∷ o ∷ z ∷ slot v (at m 3 ∷ at m 4 ∷ at m 5 ∷ [])
+  unseen o z m = pick m 0 ∷ pick m 1 ∷ pick m 2 ∷ o ∷ z ∷ slot v (pick m 3 ∷ pick m 4 ∷ pick m 5 ∷ [])
 
   abbrev seen : List Bool → List Bool
-  seen m = at m 0 ∷ at m 1 ∷ at m 2 ∷ true ∷ false ∷ at m 3 ∷ at m 4 ∷ at m 5 ∷ at m 6 ∷ at m 7 ∷ at m 8 ∷ []
+  seen m = pick m 0 ∷ pick m 1 ∷ pick m 2 ∷ true ∷ false ∷ pick m 3 ∷ pick m 4 ∷ pick m 5 ∷ pick m 6 ∷ pick m 7 ∷ pick m 8 ∷ []
 
   by-slot : (o z : Bool) → ((t : Bool) → tree 6 (λ (m : List Bool). f (unseen false t m)) ≡ tree 6 (λ (m : List Bool). g (unseen false t m)))
       → tree 6 (λ (m : List Bool). f (unseen true true m)) ≡ tree 6 (λ (m : List Bool). g (unseen true true m))
@@ -199,8 +200,8 @@ left a b c = whenRefused (collect a b c) (three (permitted a) (permitted b) (per
 
 abbrev leftOf : (Bool → Answer) → List Bool → LevelRights
 leftOf y m =
-    left (answer (at m 0) (at m 3) (at m 4) (at m 5) (y (at m 8))) (answer (at m 1) (at m 3) (at m 4) (at m 6) (y (at m 9)))
-    (answer (at m 2) (at m 3) (at m 4) (at m 7) (y (at m 10)))
+    left (answer (pick m 0) (pick m 3) (pick m 4) (pick m 5) (y (pick m 8))) (answer (pick m 1) (pick m 3) (pick m 4) (pick m 6) (y (pick m 9)))
+    (answer (pick m 2) (pick m 3) (pick m 4) (pick m 7) (y (pick m 10)))
 
 left-passes : (r : LevelRights) (on : Bool) (v : ℕ) (t : Stage2Pass) (k : Kind) (l : Level)
     → left

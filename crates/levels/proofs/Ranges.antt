@@ -6,7 +6,6 @@ use mathlib.Core.Bool.{Bool, false, cond, _&&_, _||_, true}
 use mathlib.Core.List.{List, [], _∷_}
 use Prim.Native.Nat.{ℕ, suc, _<_}
 use native.Mathlib.Omega.{arith}
-use lib.ListN.{getD}
 use borrow.Author.Tests.{lt-leb}
 use Rattle.records.proofs.Cases.{at, each}
 use Rattle.descriptors.specs.Bits.{nibble}
@@ -20,7 +19,7 @@ use Rattle.descriptors.specs.declared.Stage2.{Stage2}
 use Rattle.setups.specs.declared.LevelBits.{LevelBits}
 use Rattle.setups.specs.declared.Setup.{Setup}
 use Rattle.permissions.specs.Base.{baseOf}
-use Rattle.levels.proofs.Agree.{values, agree}
+use Rattle.levels.proofs.Agree.{pick, values, agree}
 use Rattle.levels.specs.Level.{levelOf, rangeFrom, rangeOf, between}
 use Rattle.stages.specs.LevelRights.{three, levelIn}
 use Rattle.overlays.specs.Overlay.{bitOf, registerOf, slotRights}
@@ -77,9 +76,6 @@ betweenOf (Rights f) (Rights b) v =
     Rights (three (f .read && (b .read || v .read)) (f .write && (b .write || v .write)) (f .execute && (b .execute || v .execute)))
 betweenOf (Rights f) (Refused n) v = Refused n
 betweenOf (Refused n) b v = Refused n
-
-abbrev pick : List Bool → ℕ → Bool
-pick m k = getD m k false
 
 abbrev three-from : ℕ → List Bool → LevelRights
 three-from k m = three (pick m k) (pick m (suc k)) (pick m (suc (suc k)))

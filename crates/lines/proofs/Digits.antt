@@ -43,13 +43,17 @@ decimal-is n k f h =
     let l = few 10 20 n k (omega arith) (omega arith) (λ g. f .2 (omega arith)) in
     (from 20 k n l (f .0) (f .1) (f .2), l)
 
+-- a register has at most sixteen digits, where no more were asked for
+pub hex-few : (w n k : ℕ) → w ≤ 16 → Fewest 16 w n k → n < 2 ^ 64 → k ≤ 16
+hex-few w n k l f h = few 16 16 n k (omega arith) (omega arith) (λ g. f .2 (omega arith))
+
 -- sixteen digits are a register's text
-pub hex-is : (n k : ℕ) → Fewest 16 16 n k → n < 2 ^ 64 → (digits 16 k n ≡ hex16 n) × (k ≤ 16)
+pub hex-is : (n k : ℕ) → Fewest 16 16 n k → n < 2 ^ 64 → digits 16 k n ≡ hex16 n
 unfolding hex16
 hex-is n k f h =
-    let l = few 16 16 n k (omega arith) (omega arith) (f .2) in
+    let l = hex-few 16 n k (omega arith) f h in
     let g : k ≡ 16 = let z = f .0 in omega arith in
-    (rw g, l)
+    rw g
 
 -- a number below 10 ^ j has at most j digits
 short : (most j n : ℕ) → 1 ≤ j → n < 10 ^ j → length (decimalOf most n) ≤ j

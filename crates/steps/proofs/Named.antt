@@ -26,6 +26,7 @@ use Rattle.answers.specs.Answers.{follow, faultUnless, refuseIf, descriptorAnsw
 use Rattle.checks.specs.Checks.{clash, unjudged, setupCheck, accessCheck, leafCheck}
 use Rattle.steps.specs.Stage1.{dirty, baseAnswer, stage1Answer}
 use Rattle.steps.specs.Order.{stagesAnswer, leafAnswer, afterAccess, rightsAnswer}
+use Rattle.steps.proofs.Order.{stages-as}
 use Rattle.stages.specs.LevelRights.{hasRight, has}
 use Rattle.overlays.specs.Overlay.{bitOf, registerOf, slotRights, slotAnswer}
 use Rattle.steps.specs.Stage2.{stage2Rights, stage2Answer}
@@ -98,13 +99,14 @@ from-base s d a (grants {b}) =
 from-base s d a (denies h) = refuses h
 
 stages : (s : Setup) (d : Stage1) (e : Stage2) (t : Limits) (a : Access) → Named (stagesAnswer s d e t a)
-unfolding stagesAnswer stage1Answer stage2Answer
+unfolding stage1Answer stage2Answer
 stages s d e t a =
-    follows
+    rw (stages-as s d e t a _ refl)
+    (follows
     (picks (s .control .stage1)
     (follows (descriptor 1 (inl refl) (d .valid) (d .af) (dirty (s .control) d)) (from-base s d a (base-named s d t))) permits)
     (picks (s .control .stage2)
-    (follows (descriptor 2 (inr refl) (e .valid) (e .af) (e .bit51)) (fault (has (stage2Rights e) a) 2 Permission (inr refl))) permits)
+    (follows (descriptor 2 (inr refl) (e .valid) (e .af) (e .bit51)) (fault (has (stage2Rights e) a) 2 Permission (inr refl))) permits))
 
 setup : (c : Control) → Named (setupCheck c)
 unfolding setupCheck

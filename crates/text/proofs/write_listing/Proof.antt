@@ -9,7 +9,7 @@ use Rattle.text.proofs.write_listing.Statement.{statement}
 use Rattle.text.proofs.write_listing.Tie as tie
 
 returns : tie.Need-returns
-returns c = short _ _ (c .if1 .taken)
+returns c = short _ _ (let h = c .if1 .taken in omega arith)
 
 slice-aggregate-read-file : tie.Need-slice-aggregate-read-file
 slice-aggregate-read-file c = search needs

@@ -1,7 +1,7 @@
 -- `put_hex` puts the kit's digits, sixteen of them. Assumes nothing.
 use native.Mathlib.Omega.{arith}
 use lib.ListN.{length-take}
-use Rattle.lines.proofs.Digits.{hex-is}
+use Rattle.lines.proofs.Digits.{hex-few, hex-is}
 use borrow.Author.Needs.{needs}
 use Rattle.lines.proofs.put.put_hex.Statement.{statement}
 use Rattle.lines.proofs.put.put_hex.Tie as tie
@@ -16,13 +16,13 @@ slice-aggregate-put-word : tie.Need-slice-aggregate-put-word
 slice-aggregate-put-word c = search needs
 
 put-word-requires : tie.Need-put-word-requires
-put-word-requires c κs = let h = hex-is _ _ (c .before .before .hex .ensures .1 .0) (c .before .before .before .before .before .fits .n .fits) in simp length-take (omega (arith, h .1, c .before .before .before .before .before .pre))
+put-word-requires c κs = let h = hex-few _ _ _ (omega arith) (c .before .before .hex .ensures .1 .0) (c .before .before .before .before .before .fits .n .fits) in simp length-take (omega (arith, h, c .before .before .before .before .before .pre))
 
 same-length : tie.Need-same-length
 same-length c = search needs
 
 returns : tie.Need-returns
-returns c = let d = c .before .before .before .before .before .hex in rw (← (hex-is _ _ (d .ensures .1 .0) (c .before .before .before .before .before .before .before .before .fits .n .fits) .0), ← (d .ensures .1 .1)) (c .before .before .put-word .ensures)
+returns c = let d = c .before .before .before .before .before .hex in rw (← (hex-is _ _ (d .ensures .1 .0) (c .before .before .before .before .before .before .before .before .fits .n .fits)), ← (d .ensures .1 .1)) (c .before .before .put-word .ensures)
 
 pub put-hex-spec : {M : Type 1} → statement M
 put-hex-spec =

@@ -1,5 +1,6 @@
 -- `access::judge_stages` meets its contract: stage 1's fault or refusal stands before stage 2. Assumes nothing.
-use Rattle.steps.specs.Order.{stagesAnswer}
+use mathlib.Core.Path.{sym, _∙_}
+use Rattle.steps.proofs.Order.{stages-as}
 use Rattle.answers.proofs.Steps.{stands}
 use borrow.Author.Needs.{needs}
 use Rattle.rights.proofs.access.judge_stages.Statement.{statement}
@@ -12,15 +13,14 @@ enum-told : tie.Need-enum-told
 enum-told c = search needs
 
 returns : tie.Need-returns
-unfolding stagesAnswer
-returns c = rw (← (c .before .stage1-if-on .ensures)) (stands _ _ (c .match .keys2))
+returns c = stands _ _ (c .match .keys2) ∙ sym (stages-as _ _ _ _ _ _ (sym (c .before .stage1-if-on .ensures)))
 
 stage2-if-on-requires : tie.Need-stage2-if-on-requires
 stage2-if-on-requires c κs = search needs
 
 returns-2 : tie.Need-returns-2
-unfolding stagesAnswer
-returns-2 c = rw (← (c .before .before .before .stage1-if-on .ensures), c .before .enum-told .given .1) (c .stage2-if-on .ensures)
+returns-2 c =
+    c .stage2-if-on .ensures ∙ sym (stages-as _ _ _ _ _ _ (sym (c .before .before .before .stage1-if-on .ensures) ∙ c .before .enum-told .given .1))
 
 pub judge-stages-spec : {M : Type 1} → statement M
 judge-stages-spec =
