@@ -2,14 +2,9 @@
 ghost use mathlib.Core.Path.{_≡_};
 ghost use Prim.Native.Nat.{ℕ, _<_};
 ghost use lib.ListN.{getD};
-ghost use Rattle.plan.specs.Register.{cutMask, packFrom};
-ghost use Rattle.plan.specs.Plan.{firstOf};
-
-fn wide(x: u8) -> u64
-    ensures { λ r. ⌜ r ≡ x ⌝ }
-{
-    x as u64
-}
+ghost use Rattle.planner.specs.Mirror.Masks.{firstOf};
+ghost use Rattle.planner.specs.Register.{cutMask, packFrom};
+use records::number::wide;
 
 // The mask without the bits taken.
 pub(crate) fn cut_mask(mask: u8, taken: u8) -> u8

@@ -1,11 +1,17 @@
 -- Laws that turn one computation over a finite domain into the equation at each of its values: all numbers below k, both truth
--- values, and all lists of n truth values or binary digits. A table's rule and a rule over truth values are proved by them, with `refl`. And what a test of two parts tells. Assumes nothing.
+-- values, and all lists of n truth values or binary digits. A table's rule and a rule over truth values
+-- are proved by them, with `refl`. And what a test of two parts tells, and that different constructors are never equal. Assumes nothing.
 use mathlib.Core.Path.{_≡_, refl}
 use mathlib.Core.Bool.{Bool, true, false, _&&_}
 use mathlib.Core.List.{List, [], _∷_}
 use Prim.Native.Nat.{ℕ, zero, suc, _%_, _<_}
+use native.Mathlib.Omega.{arith}
 use native.Mathlib.Nat.{le-of-suc-le-suc, not-suc-le-zero, mod-lt, zero-lt-suc}
 use lib.ListN.{length}
+
+-- where an equation has different constructors on its sides, `clash (cc)` proves anything
+pub clash : {A : Type 0} → _≡_ {A = ℕ} 0 1 → A
+clash z = absurd (omega arith)
 
 -- f at 0, 1, .. up to k - 1
 abbrev pub upto : {A : Type 0} → ℕ → (ℕ → A) → List A

@@ -1,9 +1,9 @@
 -- A leaf that is refused is refused with 13. Assumes nothing.
+use Rattle.records.proofs.Cases.{clash}
 use mathlib.Core.Path.{_≡_, refl}
 use mathlib.Core.Bool.{Bool, true, false}
 use mathlib.Core.List.{List}
 use Prim.Native.Nat.{ℕ}
-use native.Mathlib.Omega.{arith}
 use lib.Dec.{eqb}
 use lib.ListN.{length}
 use borrow.Author.Tests.{eq-eqb}
@@ -15,7 +15,7 @@ unfolding readLeaf
 leaf-13 s k e = go (eqb (length s) 18) refl
   where
     go : (t : Bool) → eqb (length s) 18 ≡ t → k ≡ 13
-    go true q = let f : leaf.Read (leafOf s) ≡ leaf.Refused k = rw q at e in let z : _≡_ {A = ℕ} 0 1 = cc in absurd (omega arith)
+    go true q = let f : leaf.Read (leafOf s) ≡ leaf.Refused k = rw q at e in clash (cc)
     go false q = let f : leaf.Refused 13 ≡ leaf.Refused k = rw q at e in cc
 
 -- 18 bytes are a leaf

@@ -1,3 +1,9 @@
+pub mod Bits
 pub mod Bytes
-pub mod Words
+pub mod Values
+pub mod Access
+pub mod Setup
 pub mod Leaf
+pub mod Descriptor
+pub mod MapFile
+pub mod Mirror

@@ -1,6 +1,12 @@
-// The words of a setup, and leaves, read from bytes (document 01, 'Setup and leaf records'). Part of the record layer.
+// The record layer (document 01, 'Setup and leaf records', and the file part of 'File, program, host'): setups, leaves, descriptor fields with the
+// two indices, accesses and map files, decoded from bytes. It is the only layer that reads a raw bit, but for the pass over all accesses
+// (docs/DESIGN.md). It judges nothing.
 //
-// No public function has a `requires`: each refuses what it can't read. It judges nothing.
+// No public function has a `requires`: each refuses what it can't read, or is total.
+pub mod access;
+pub mod check;
+pub mod descriptor;
 pub mod leaf;
-mod number;
-pub mod words;
+pub mod mapfile;
+pub mod number;
+pub mod setup;

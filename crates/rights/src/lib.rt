@@ -1,5 +1,15 @@
-// One access through the checks and both stages, up to where the attribute steps begin (document 01, 'The order a judgement is made in').
-// Part of the rights layer.
+// The rights layer (document 01, 'Numbers for no' 1 to 5, 'The order a judgement is made in' up to the attribute steps, 'Stage 1 rights' and
+// 'Stage 2 rights'). It sees `records` alone.
 //
-// `access::judge_rights` checks 1 to 5 first; `access::judge_stages` checks nothing. No public function has a `requires`.
-pub mod access;
+// There are two ways through the rules. `order::judge_rights` takes one access by the paper's steps and relies on no earlier check. `pass`
+// takes all accesses of a leaf at once, for the list and the planner. `promise` is what the planner may know.
+pub mod answers;
+pub mod checks;
+mod direct;
+mod indirect;
+pub mod order;
+mod overlay;
+pub mod pass;
+pub mod promise;
+mod stage1;
+mod stage2;

@@ -1,21 +1,20 @@
 -- A setup's bytes with a register in place of a level's POR are read as the setup with that register in place. Assumes nothing.
 use mathlib.Core.Path.{_≡_, refl, ap, _∙_}
 use mathlib.Core.List.{List, [], _∷_}
-use Prim.Native.Nat.{ℕ, _+_, _^_, _<_}
+use Prim.Native.Nat.{ℕ, _^_, _<_}
 use native.Mathlib.Omega.{arith}
 use lib.ListN.{length, getD}
 use borrow.Author.Tests.{eq-eqb}
 use Rattle.records.proofs.Cases.{upto}
 use Rattle.records.specs.Bytes.{le64}
-use Rattle.records.specs.Words.{wordsOf}
-use Rattle.setups.specs.Setup.{setupFrom, setupOf, readSetup}
-use Rattle.accesses.specs.declared.Level.{Level}
-use Rattle.accesses.specs.declared.Level.the-variants.{Privileged, Unprivileged}
-use Rattle.records.specs.declared.words.LevelRegisters.{LevelRegisters}
-use Rattle.setups.specs.declared.Setup.{Setup}
-use Rattle.setups.specs.declared.SetupRead.the-variants.{Read}
-use Rattle.levels.specs.Register.{put}
-use Rattle.judgement.specs.Cases.{bytesOf}
+use Rattle.records.specs.Setup.{wordsOf, setupFrom, setupOf, readSetup}
+use Rattle.records.specs.declared.access.Level.{Level}
+use Rattle.records.specs.declared.access.Level.the-variants.{Privileged, Unprivileged}
+use Rattle.records.specs.declared.setup.LevelRegisters.{LevelRegisters}
+use Rattle.records.specs.declared.setup.Setup.{Setup}
+use Rattle.records.specs.declared.setup.SetupRead.the-variants.{Read}
+use Rattle.rights.specs.Promise.{put}
+use Rattle.judge.specs.Cases.{bytesOf}
 use Rattle.separation.specs.Separation.{withPor}
 
 -- a list is its bytes, one by one

@@ -1,7 +1,8 @@
 -- The planner's answer, put in place of that level's POR, stops every forbidden access of that level in the judge's list. Assumes nothing.
+use Rattle.records.proofs.Cases.{clash, upto, at}
 use mathlib.Core.Path.{_≡_, refl, sym, ap, _∙_}
 use mathlib.Core.Bool.{Bool, true, false, cond, _&&_}
-use mathlib.Core.List.{List, [], _∷_}
+use mathlib.Core.List.{List, []}
 use mathlib.Core.Logic.{_⊎_, inl, inr}
 use Prim.Native.Nat.{ℕ, _/_, _%_, _^_, _<_}
 use native.Mathlib.Omega.{arith}
@@ -9,32 +10,32 @@ use lib.Bits.{bitAnd, and-shr, and-mod}
 use lib.Dec.{eqb, ltb}
 use lib.ListN.{length, getD}
 use borrow.Author.Tests.{eqb-true}
-use Rattle.records.proofs.Cases.{upto, at}
-use Rattle.accesses.specs.Access.{accessAt}
-use Rattle.descriptors.specs.Bits.{bit}
-use Rattle.setups.specs.Setup.{setupOf, readSetup}
-use Rattle.accesses.specs.declared.Level.{Level}
-use Rattle.accesses.specs.declared.Level.the-variants.{Privileged, Unprivileged}
-use Rattle.accesses.specs.declared.Right.{Right}
-use Rattle.accesses.specs.declared.Right.the-variants.{Read, Write, Execute}
+use Rattle.records.specs.Access.{accessAt}
+use Rattle.records.specs.Bits.{bit}
+use Rattle.records.specs.Setup.{setupOf, readSetup}
+use Rattle.records.specs.declared.access.Level.{Level}
+use Rattle.records.specs.declared.access.Level.the-variants.{Privileged, Unprivileged}
+use Rattle.records.specs.declared.access.Right.{Right}
+use Rattle.records.specs.declared.access.Right.the-variants.{Read, Write, Execute}
 use Rattle.records.specs.declared.leaf.Leaf.{Leaf}
-use Rattle.setups.specs.declared.Setup.{Setup}
-use Rattle.setups.specs.declared.SetupRead.the-variants as setup
-use Rattle.steps.proofs.Named.{stages-answer}
-use Rattle.answers.specs.Answers.{permitted}
-use Rattle.steps.specs.Order.{leafAnswer, rightsAnswer}
-use Rattle.levels.specs.Register.{put}
-use Rattle.answers.specs.declared.Answer.{Answer}
-use Rattle.answers.specs.declared.Answer.the-variants as answer
-use Rattle.judgement.proofs.Demands.{list-meets}
-use Rattle.judgement.specs.Demands.{isAllowed}
-use Rattle.judgement.specs.Judge.{after, judged}
-use Rattle.judgement.specs.List.{leafAt, listOf}
-use Rattle.judgement.specs.declared.Judgement.{Judgement}
-use Rattle.plan.proofs.Consequences.{access-number}
-use Rattle.plan.proofs.Theorem.{demand3}
-use Rattle.plan.specs.Plan.{planOf}
-use Rattle.plan.specs.Register.{accessNumber}
+use Rattle.records.specs.declared.setup.Setup.{Setup}
+use Rattle.records.specs.declared.setup.SetupRead.the-variants as setup
+use Rattle.rights.proofs.Named.{stages-answer}
+use Rattle.rights.specs.Answers.{permitted}
+use Rattle.rights.specs.Order.{leafAnswer, rightsAnswer}
+use Rattle.rights.specs.Promise.{put}
+use Rattle.rights.specs.declared.answers.Answer.{Answer}
+use Rattle.rights.specs.declared.answers.Answer.the-variants as answer
+use Rattle.judge.proofs.Demands.{list-meets}
+use Rattle.judge.specs.Demands.{isAllowed}
+use Rattle.judge.specs.Judge.{afterRights, judged}
+use Rattle.records.specs.Leaf.{leafAt}
+use Rattle.judge.specs.List.{listOf}
+use Rattle.judge.specs.declared.answers.Judgement.{Judgement}
+use Rattle.planner.proofs.Consequences.{access-number}
+use Rattle.planner.proofs.Theorem.{demand3}
+use Rattle.planner.specs.Plan.{planOf}
+use Rattle.planner.specs.Register.{accessNumber}
 use Rattle.separation.proofs.InPlace.{put-read}
 use Rattle.separation.specs.Separation.{withPor, Separated}
 
@@ -64,13 +65,13 @@ off false b h = refl
 allowed : (two low x : Bool) → cond two x (low && x) ≡ true → x ≡ true
 allowed true low x e = e
 allowed false true x e = e
-allowed false false x e = let z : _≡_ {A = ℕ} 0 1 = cc in absurd (omega arith)
+allowed false false x e = clash (cc)
 
 -- an access that the judge allows is permitted by the stages
-reached : (x : Answer) (j : Judgement) → isAllowed (after x j) ≡ true → x ≡ answer.Permitted
+reached : (x : Answer) (j : Judgement) → isAllowed (afterRights x j) ≡ true → x ≡ answer.Permitted
 reached answer.Permitted j e = refl
-reached (answer.Fault f) j e = let z : _≡_ {A = ℕ} 0 1 = cc in absurd (omega arith)
-reached (answer.Refused n) j e = let z : _≡_ {A = ℕ} 0 1 = cc in absurd (omega arith)
+reached (answer.Fault f) j e = clash (cc)
+reached (answer.Refused n) j e = clash (cc)
 
 by-stages : (s : Setup) (f : Leaf) (n : ℕ) → isAllowed (judged s f n) ≡ true → leafAnswer s f (accessAt n) ≡ answer.Permitted
 unfolding judged
@@ -78,7 +79,7 @@ by-stages s f n e = go (stages-answer s f n) (reached (rightsAnswer s f n) _ e)
   where
     go : ((k : ℕ) × (rightsAnswer s f n ≡ answer.Refused k)) ⊎ (rightsAnswer s f n ≡ leafAnswer s f (accessAt n))
         → rightsAnswer s f n ≡ answer.Permitted → leafAnswer s f (accessAt n) ≡ answer.Permitted
-    go (inl (k, q)) p = let z : _≡_ {A = ℕ} 0 1 = cc in absurd (omega arith)
+    go (inl (k, q)) p = clash (cc)
     go (inr q) p = sym q ∙ p
 
 -- bytes that are read as a setup are 52, and the setup is theirs
@@ -88,7 +89,7 @@ is-read b s = go (eqb (length b) 52) refl
   where
     go : (t : Bool) → eqb (length b) 52 ≡ t → cond t (setup.Read (setupOf b)) (setup.Refused 13) ≡ setup.Read s → (length b ≡ 52) × (s ≡ setupOf b)
     go true q e = (eqb-true _ _ q, cc)
-    go false q e = let z : _≡_ {A = ℕ} 0 1 = cc in absurd (omega arith)
+    go false q e = clash (cc)
 
 pub separated : (b : List ℕ) (lv : ℕ) (ls o : List ℕ) → Separated b lv ls o
 separated b lv ls o s l r m A e d i x h =

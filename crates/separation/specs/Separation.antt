@@ -6,18 +6,19 @@ use mathlib.Core.Bool.{false}
 use mathlib.Core.List.{List, _++_}
 use lib.Bits.{bitAnd}
 use lib.ListN.{length, getD, take, drop}
-use Rattle.descriptors.specs.Bits.{bit}
-use Rattle.accesses.specs.declared.Level.{Level}
-use Rattle.accesses.specs.declared.Level.the-variants.{Privileged, Unprivileged}
-use Rattle.accesses.specs.declared.Right.{Right}
-use Rattle.setups.specs.declared.Setup.{Setup}
-use Rattle.judgement.specs.Cases.{bytesOf}
-use Rattle.judgement.specs.List.{leafAt, listOf}
-use Rattle.judgement.specs.declared.Listed.the-variants.{Done}
-use Rattle.plan.specs.Demand3.{Accepted}
-use Rattle.plan.specs.Plan.{planOf}
-use Rattle.plan.specs.Register.{accessNumber}
-use Rattle.plan.specs.declared.Plan.the-variants.{Register}
+use Rattle.records.specs.Bits.{bit}
+use Rattle.records.specs.declared.access.Level.{Level}
+use Rattle.records.specs.declared.access.Level.the-variants.{Privileged, Unprivileged}
+use Rattle.records.specs.declared.access.Right.{Right}
+use Rattle.records.specs.declared.setup.Setup.{Setup}
+use Rattle.judge.specs.Cases.{bytesOf}
+use Rattle.records.specs.Leaf.{leafAt}
+use Rattle.judge.specs.List.{listOf}
+use Rattle.judge.specs.declared.answers.Listed.the-variants.{Done}
+use Rattle.planner.specs.Demand3.{Accepted}
+use Rattle.planner.specs.Plan.{planOf}
+use Rattle.planner.specs.Register.{accessNumber}
+use Rattle.planner.specs.declared.plan.Plan.the-variants.{Register}
 
 -- where a setup of 52 bytes holds a level's POR
 abbrev pub porPlace : Level → ℕ

@@ -1,26 +1,27 @@
 -- The text of a file by what was read of it, and of a map by what its list answered. Assumes nothing.
+use Rattle.records.proofs.Cases.{clash}
 use mathlib.Core.Path.{_≡_, refl, sym, ap, _∙_}
 use mathlib.Core.Bool.{Bool, true, false, cond, _&&_}
 use mathlib.Core.List.{List, [], append-nil}
-use Prim.Native.Nat.{ℕ, _+_, _*_, _≤_, _<_}
+use Prim.Native.Nat.{ℕ, _*_, _≤_, _<_}
 use native.Mathlib.Nat.{zero-add}
 use native.Mathlib.Omega.{arith}
 use lib.Dec.{leb}
 use lib.ListN.{length, take, drop, replicate, length-append, length-replicate, drop-of-length-le}
 use lib.Seq.{take-at, length-take-le}
 use borrow.Author.Tests.{le-leb, lt-ltb, le-ltb}
-use Rattle.mapfile.proofs.LeafFields.{whole, value-length, counted}
-use Rattle.mapfile.specs.MapFile.{beginsWith, value, rest, Leaves, leaves, illFormed, leavesOf, fileOf, resultOf, readFile}
+use Rattle.records.proofs.LeafFields.{whole, value-length, counted}
+use Rattle.records.specs.MapFile.{beginsWith, value, rest, Leaves, leaves, illFormed, leavesOf, fileOf, resultOf, readFile}
 use Rattle.records.specs.Bytes.{over}
-use Rattle.mapfile.specs.declared.FileRead.{FileRead}
-use Rattle.mapfile.specs.declared.FileRead.the-variants as file
-use Rattle.judgement.specs.List.{listOf}
-use Rattle.judgement.specs.declared.Listed.{Listed}
-use Rattle.judgement.specs.declared.Listed.the-variants.{Done, Refused}
+use Rattle.records.specs.declared.mapfile.FileRead.{FileRead}
+use Rattle.records.specs.declared.mapfile.FileRead.the-variants as file
+use Rattle.judge.specs.List.{listOf}
+use Rattle.judge.specs.declared.answers.Listed.{Listed}
+use Rattle.judge.specs.declared.answers.Listed.the-variants.{Done, Refused}
 use Rattle.io.specs.Counts.{Counts}
-use Rattle.lines.specs.Items.{refusalLine}
+use Rattle.text.specs.Lines.{refusalLine}
 use Rattle.text.specs.Listing.{mapLines, mapText, textOf, written}
-use Rattle.lines.specs.Put.{Put}
+use Rattle.text.specs.Mirror.Put.{Put}
 
 -- the list's answer x, with the rights rs written
 module _ (b ls : List ℕ) (n : ℕ) (x : Listed) where
@@ -84,10 +85,10 @@ module _ (s a z : List ℕ) (ha : length a ≡ 52) (hz : 36864 ≤ length z) whe
 
 as-map : (s : List ℕ) (x : FileRead) (n : ℕ) (a ls : List ℕ) → FileText s x a ls → x ≡ file.Map n → Read s n a ls
 as-map s _ n _ _ (map m a ls r) e = let f : m ≡ n = cc in rw (← f) r
-as-map s _ n _ _ (ill-formed a ls t) e = let z : _≡_ {A = ℕ} 0 1 = cc in absurd (omega arith)
+as-map s _ n _ _ (ill-formed a ls t) e = clash (cc)
 
 as-refused : (s : List ℕ) (x : FileRead) (k : ℕ) (a ls : List ℕ) → FileText s x a ls → x ≡ file.Refused k → textOf s ≡ refusalLine k 0
-as-refused s _ k _ _ (map m a ls r) e = let z : _≡_ {A = ℕ} 0 1 = cc in absurd (omega arith)
+as-refused s _ k _ _ (map m a ls r) e = clash (cc)
 as-refused s _ k _ _ (ill-formed a ls t) e = let f : 13 ≡ k = cc in rw (← f) t
 
 -- the answer x of `read_file`, which leaves b and ls in the buffers

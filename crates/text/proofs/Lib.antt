@@ -1,2 +1,5 @@
+pub mod Digits
+pub mod Puts
+pub mod Lengths
 pub mod Files
-pub mod Lines
+pub mod LineLaws

@@ -4,16 +4,16 @@ use mathlib.Core.Bool.{cond}
 use mathlib.Core.List.{List, [], _++_}
 use lib.Dec.{ltb}
 use lib.ListN.{length, getD, replicate}
-use Rattle.mapfile.specs.MapFile.{Leaves, leaves, illFormed, value, fileOf}
+use Rattle.records.specs.MapFile.{Leaves, leaves, illFormed, value, fileOf}
 use Rattle.records.specs.Bytes.{over}
-use Rattle.judgement.specs.List.{leafAt, listOf}
-use Rattle.judgement.specs.declared.Listed.{Listed}
-use Rattle.judgement.specs.declared.Listed.the-variants as listed
-use Rattle.plan.specs.Plan.{planOf}
-use Rattle.plan.specs.declared.Plan.{Plan}
-use Rattle.plan.specs.declared.Plan.the-variants as plan
-use Rattle.lines.specs.Items.{lastNumber, refusalLine, leafLine, registerLine}
-use Rattle.lines.specs.Words.{ascii}
+use Rattle.records.specs.Leaf.{leafAt}
+use Rattle.judge.specs.List.{listOf}
+use Rattle.judge.specs.declared.answers.Listed.{Listed}
+use Rattle.judge.specs.declared.answers.Listed.the-variants as listed
+use Rattle.planner.specs.Plan.{planOf}
+use Rattle.planner.specs.declared.plan.Plan.{Plan}
+use Rattle.planner.specs.declared.plan.Plan.the-variants as plan
+use Rattle.text.specs.Lines.{lastNumber, refusalLine, leafLine, registerLine, ascii}
 
 -- the line of leaf i, whose rights the list wrote
 abbrev pub lineAt : List ℕ → List ℕ → ℕ → List ℕ
@@ -57,10 +57,10 @@ textOf s = fileText s (fileOf s)
 
 -- what writing the text of file s to a lent buffer o answers, the number of bytes written, and what the buffer holds then: with fewer than
 -- 36,864 bytes, which every text fits in, 0 and no byte changed
-pub record Result : Type 0 where
+pub record Written : Type 0 where
   pub count : ℕ
   pub out : List ℕ
 
-unfoldable pub written : List ℕ → List ℕ → Result
+unfoldable pub written : List ℕ → List ℕ → Written
 written s o =
     cond (ltb (length o) 36864) (record { count = 0; out = o }) (record { count = length (textOf s); out = over (textOf s) o })

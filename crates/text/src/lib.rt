@@ -4,14 +4,16 @@ ghost use mathlib.Core.Path.{_≡_};
 ghost use Prim.Native.Nat.{_+_, _*_, _≤_, _<_};
 ghost use lib.ListN.{length};
 ghost use Rattle.io.specs.Counts.{Counts};
-ghost use Rattle.lines.specs.Items.{refusalLine, leafLine};
-ghost use Rattle.lines.specs.Put.{Put};
+ghost use Rattle.text.specs.Lines.{refusalLine, leafLine};
+ghost use Rattle.text.specs.Mirror.Put.{Put};
 ghost use Rattle.text.specs.Listing.{lineAt, linesFrom, planLine, planLines, mapLines, mapText, written};
-use judgement::Listed;
-use lines::Item;
-use lines::put_item;
-use mapfile::FileRead;
-use plan::Plan;
+use crate::lines::Item;
+use crate::lines::put_item;
+use judge::answers::Listed;
+use planner::plan::Plan;
+use records::mapfile::FileRead;
+
+mod lines;
 
 // A leaf's line, of at most 17 bytes.
 fn put_leaf(out: &mut [u8], at: usize, index: usize, rights: u8, forbidden: u8) -> usize
@@ -93,7 +95,7 @@ fn put_list(out: &mut [u8], setup: &[u8], leaves: &[u8], n: usize) -> usize
     ensures { λ r. ⌜ Put (now (out .entry)) 0 (mapText (now (setup .entry)) (now (leaves .entry)) n) (now (out .exit)) r ⌝ }
 {
     let mut rights = [0u8; 2048];
-    match lists::list_rights(setup, leaves, &mut rights) {
+    match judge::list::list_rights(setup, leaves, &mut rights) {
         Listed::Done(_) => put_map(out, setup, leaves, n, &rights),
         Listed::Refused { number, leaf } => put_refusal(out, 0, number, leaf),
     }
@@ -110,7 +112,7 @@ pub fn write_listing(file: &[u8], out: &mut [u8]) -> usize
     }
     let mut setup = [0u8; 52];
     let mut leaves = [0u8; 36864];
-    match mapfile::read_file(file, &mut setup, &mut leaves) {
+    match records::mapfile::read_file(file, &mut setup, &mut leaves) {
         FileRead::Map(n) => {
             let end = n * 18;
             put_list(out, &setup, &leaves[..end], n)

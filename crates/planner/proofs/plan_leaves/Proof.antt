@@ -10,33 +10,33 @@ use native.Mathlib.Nat.{le-antisymm, sub-zero, add-sub-cancel-left}
 use lib.Dec.{eqb}
 use lib.ListN.{length, getD, take, drop, set, replicate}
 use denote.Ref.{now}
-use Rattle.plan.specs.Masks.{planBy, plansBy}
-use Rattle.plan.specs.Plan.{orRefused, cutBy, uncured, refusedFrom, firstUncured, firstOf, cuts, settled, inOrder}
-use Rattle.plan.specs.declared.Plan.the-variants.{Register}
-use Rattle.plan.specs.declared.LeafPlan.{LeafPlan}
-use Rattle.plan.specs.declared.LeafPlan.the-variants.{Cut}
-use Rattle.plan.proofs.Cuts.{Low, cuts-masks, sevens}
-use Rattle.plan.proofs.Masks.{by-low}
-use Rattle.plan.proofs.Turns.{refused-go, cuts-go, first-go, refused-done, cuts-done, first-done, first-starts, uncured-settles, cured-settles}
+use Rattle.planner.specs.Mirror.Masks.{planBy, plansBy, firstOf}
+use Rattle.planner.specs.Plan.{orRefused, cutBy, uncured, refusedFrom, firstUncured, cuts, settled, inOrder}
+use Rattle.planner.specs.declared.plan.Plan.the-variants.{Register}
+use Rattle.planner.specs.declared.plan.LeafPlan.{LeafPlan}
+use Rattle.planner.specs.declared.plan.LeafPlan.the-variants.{Cut}
+use Rattle.planner.proofs.CutLaws.{Low, cuts-masks, sevens}
+use Rattle.planner.proofs.MaskLaws.{by-low}
+use Rattle.planner.proofs.Turns.{refused-go, cuts-go, first-go, refused-done, cuts-done, first-done, first-starts, uncured-settles, cured-settles}
 use Rattle.planner.proofs.plan_leaves.Statement.{statement}
 use Rattle.planner.proofs.plan_leaves.Tie as tie
 
 abbrev Inv-loop : tie.InvT-loop
-Inv-loop w base l leaves n masks₀ first₀ i₀ masks first i =
+Inv-loop w on base l leaves n masks₀ first₀ i₀ masks first i =
     (i ≤ n)
-    × (inOrder (plansBy w base l leaves) n ≡ refusedFrom (plansBy w base l leaves) (settled (plansBy w base l leaves) n) (n - i) i)
-    × (cuts (plansBy w base l leaves) n 0 (replicate 8 7) ≡ cuts (plansBy w base l leaves) (n - i) i masks)
-    × (firstUncured (plansBy w base l leaves) n 0 ≡ cond (eqb first n) (firstUncured (plansBy w base l leaves) (n - i) i) first)
+    × (inOrder (plansBy w on base l leaves) n ≡ refusedFrom (plansBy w on base l leaves) (settled (plansBy w on base l leaves) n) (n - i) i)
+    × (cuts (plansBy w on base l leaves) n 0 (replicate 8 7) ≡ cuts (plansBy w on base l leaves) (n - i) i masks)
+    × (firstUncured (plansBy w on base l leaves) n 0 ≡ cond (eqb first n) (firstUncured (plansBy w on base l leaves) (n - i) i) first)
 
 abbrev μ-loop : tie.MeasureT-loop
-μ-loop w base l leaves n masks₀ first₀ i₀ masks first i = n - i
+μ-loop w on base l leaves n masks₀ first₀ i₀ masks first i = n - i
 
 -- the list, its leaves' plans and their number, at the loop
 abbrev ls : tie.At-loop Inv-loop μ-loop → List ℕ
 ls c = now (c .before .before .args .leaves)
 
 abbrev P : tie.At-loop Inv-loop μ-loop → ℕ → LeafPlan
-P c = let a = c .before .before .args in plansBy (a .w) (now (a .base)) (a .l) (ls c)
+P c = let a = c .before .before .args in plansBy (a .w) (a .on) (now (a .base)) (a .l) (ls c)
 
 abbrev n : tie.At-loop Inv-loop μ-loop → ℕ
 n c = length (ls c) / 18
@@ -46,7 +46,7 @@ planned : (c : tie.After-plan-leaf Inv-loop μ-loop) → c .plan-leaf .result �
 planned c =
     let a = c .before .before .before .before .before .args in
     let i = c .before .before .before .loop .i in
-    c .plan-leaf .ensures ∙ ap (λ (k : ℕ). planBy (a .w) (now (a .base)) (a .l) (take k (drop (i * 18) (now (a .leaves))))) (add-sub-cancel-left (i * 18) 18)
+    c .plan-leaf .ensures ∙ ap (λ (k : ℕ). planBy (a .w) (a .on) (now (a .base)) (a .l) (take k (drop (i * 18) (now (a .leaves))))) (add-sub-cancel-left (i * 18) 18)
 
 -- leaf i's plan where it is a cut
 cut : (c : tie.After-place Inv-loop μ-loop) → P (c .before .before .before .before .before) (c .before .before .before .before .before .loop .i) ≡ Cut (c .place .given .0 .0) (c .place .given .0 .1 .0) (c .place .given .0 .1 .1 .0)
@@ -54,7 +54,7 @@ cut c = sym (planned (c .before .before)) ∙ c .place .given .1
 
 -- its place is below 8
 low : (c : tie.After-place Inv-loop μ-loop) → c .place .given .0 .0 < 8
-low c = subst Low (cut c) (by-low _ _ _ _) .0
+low c = subst Low (cut c) (by-low _ _ _ _ _) .0
 
 -- after the loop
 ended : (c : tie.After-loop Inv-loop μ-loop) → c .before .loop .i ≡ n (c .before)
@@ -140,7 +140,7 @@ returns-2 c = sym (last-plan (c .before) ∙ uncured-settles _ _ _ (last-first (
 
 pack-requires : tie.Need-pack-requires Inv-loop μ-loop
 pack-requires c κs = let e = c .before in
-    subst (λ (ms : List ℕ). (s : ℕ) → getD ms s 0 < 8) (last-masks e) (cuts-masks (P (e .before)) (λ i. by-low _ _ _ _) _ _ _ sevens .small)
+    subst (λ (ms : List ℕ). (s : ℕ) → getD ms s 0 < 8) (last-masks e) (cuts-masks (P (e .before)) (λ i. by-low _ _ _ _ _) _ _ _ sevens .small)
 
 returns-3 : tie.Need-returns-3 Inv-loop μ-loop
 returns-3 c = let e = c .before .before in

@@ -3,18 +3,18 @@ use mathlib.Core.Path.{_≡_, refl, sym, ap, _∙_}
 use mathlib.Core.List.{List}
 use Prim.Native.Nat.{ℕ}
 use lib.ListN.{length}
-use Rattle.setups.proofs.Words.{asSetup, setup-read}
-use Rattle.setups.specs.Setup.{controlOf, setupFrom}
-use Rattle.records.specs.Words.{readWords}
-use Rattle.records.specs.declared.words.Words.{Words}
-use Rattle.records.specs.declared.words.WordsRead.{WordsRead}
-use Rattle.records.specs.declared.words.WordsRead.the-variants as words
-use Rattle.plan.specs.Demand3.{Demanded}
-use Rattle.plan.specs.Plan.{startOf, planFrom, planSetup, planOf, valuesOf}
-use Rattle.plan.specs.declared.Plan.{Plan}
-use Rattle.plan.specs.declared.Start.{Start}
-use Rattle.plan.proofs.Masks.{leaves-by}
-use Rattle.plan.proofs.Theorem.{demand3}
+use Rattle.records.proofs.SetupWords.{asSetup, setup-read}
+use Rattle.records.specs.Setup.{controlOf, setupFrom, readWords}
+use Rattle.records.specs.declared.setup.Control.{Control}
+use Rattle.records.specs.declared.setup.Words.{Words}
+use Rattle.records.specs.declared.setup.WordsRead.{WordsRead}
+use Rattle.records.specs.declared.setup.WordsRead.the-variants as words
+use Rattle.planner.specs.Demand3.{Demanded}
+use Rattle.planner.specs.Plan.{startOf, planFrom, planSetup, planOf, valuesOf}
+use Rattle.planner.specs.declared.plan.Plan.{Plan}
+use Rattle.planner.specs.declared.plan.Start.{Start}
+use Rattle.planner.proofs.MaskLaws.{leaves-by}
+use Rattle.planner.proofs.Theorem.{demand3}
 use borrow.Author.Needs.{needs}
 use Rattle.planner.proofs.plan_level.Statement.{statement}
 use Rattle.planner.proofs.plan_level.Tie as tie
@@ -31,10 +31,11 @@ met bytes lv ls x p e q =
     (r, (ap valuesOf r, demand3 bytes lv ls p r))
 
 -- the answer where the words are read, by what the checks before the leaves give
-begun : (bytes : List ℕ) (lv : ℕ) (ls : List ℕ) (q : Words) (x : Start) (p : Plan) → readWords bytes ≡ words.Read q
-    → startOf (controlOf (q .control)) lv (length ls) ≡ x → p ≡ planFrom (setupFrom q) ls x → Met bytes lv ls p
+begun : (bytes : List ℕ) (lv : ℕ) (ls : List ℕ) (q : Words) (k : Control) (x : Start) (p : Plan) → readWords bytes ≡ words.Read q
+    → k ≡ controlOf (q .control) → startOf k lv (length ls) ≡ x → p ≡ planFrom (setupFrom q) ls x → Met bytes lv ls p
 unfolding setupFrom
-begun bytes lv ls q x p r e f = met bytes lv ls (words.Read q) p r (f ∙ ap (planFrom (setupFrom q) ls) (sym e))
+begun bytes lv ls q k x p r g e f =
+    met bytes lv ls (words.Read q) p r (f ∙ ap (planFrom (setupFrom q) ls) (sym e ∙ ap (λ (c : Control). startOf c lv (length ls)) g))
 
 read-words-requires : tie.Need-read-words-requires
 read-words-requires c κs = search needs
@@ -48,6 +49,9 @@ enum-told c = search needs
 returns : tie.Need-returns
 returns c = met _ _ _ _ _ (sym (c .before .before .read-words .ensures) ∙ c .enum-told .given .1) refl
 
+read-control-requires : tie.Need-read-control-requires
+read-control-requires c κs = search needs
+
 begin-requires : tie.Need-begin-requires
 begin-requires c κs = search needs
 
@@ -57,6 +61,9 @@ enum-known-number c = search needs
 enum-known-l : tie.Need-enum-known-l
 enum-known-l c = search needs
 
+bit-of-requires : tie.Need-bit-of-requires
+bit-of-requires c κs = search needs
+
 base-table-requires : tie.Need-base-table-requires
 base-table-requires c κs = search needs
 
@@ -64,10 +71,10 @@ plan-leaves-requires : tie.Need-plan-leaves-requires
 plan-leaves-requires c κs = search needs
 
 returns-2 : tie.Need-returns-2
-returns-2 c = begun _ _ _ _ _ _ (sym (c .before .before .before .before .before .before .before .read-words .ensures) ∙ c .before .before .before .before .before .q .given .1) (sym (c .before .before .before .begin .ensures) ∙ c .before .number .given .1) refl
+returns-2 c = begun _ _ _ _ _ _ _ (sym (c .before .before .before .before .before .before .before .before .read-words .ensures) ∙ c .before .before .before .before .before .before .q .given .1) (c .before .before .before .before .read-control .ensures) (sym (c .before .before .before .begin .ensures) ∙ c .before .number .given .1) refl
 
 returns-3 : tie.Need-returns-3
-returns-3 c = begun _ _ _ _ _ _ (sym (c .before .before .before .before .before .before .before .before .before .before .read-words .ensures) ∙ c .before .before .before .before .before .before .before .before .q .given .1) (sym (c .before .before .before .before .before .before .begin .ensures) ∙ c .before .before .before .before .l .given .1) (c .plan-leaves .ensures ∙ leaves-by _ _ _ (c .before .before .base-table .ensures) _)
+returns-3 c = begun _ _ _ _ _ _ _ (sym (c .before .before .before .before .before .before .before .before .before .before .before .before .before .read-words .ensures) ∙ c .before .before .before .before .before .before .before .before .before .before .before .q .given .1) (c .before .before .before .before .before .before .before .before .before .read-control .ensures) (sym (c .before .before .before .before .before .before .before .before .begin .ensures) ∙ c .before .before .before .before .before .before .l .given .1) (c .plan-leaves .ensures ∙ rw (c .before .before .before .bit-of .ensures, c .before .before .before .before .before .before .before .before .before .read-control .ensures) (leaves-by _ _ _ (c .before .before .base-table .ensures) _))
 
 pub plan-level-spec : {M : Type 1} → statement M
 plan-level-spec =
@@ -77,9 +84,11 @@ plan-level-spec =
     enum-known-q
     enum-told
     returns
+    read-control-requires
     begin-requires
     enum-known-number
     enum-known-l
+    bit-of-requires
     base-table-requires
     plan-leaves-requires
     returns-2

@@ -1,8 +1,8 @@
 -- `sonsiplex_list` packs the list's answer. Assumes nothing.
 use mathlib.Core.Path.{sym, ap, _∙_}
 use native.Mathlib.Omega.{arith}
-use Rattle.packing.specs.Packing.{listNumbers}
-use Rattle.sonsiplex.proofs.Packing.{packed, list-fit}
+use Rattle.sonsiplex.specs.Packing.{listNumbers}
+use Rattle.sonsiplex.proofs.Exported.{packed, list-fit}
 use borrow.Author.Needs.{needs}
 use Rattle.sonsiplex.proofs.sonsiplex_list.Statement.{statement}
 use Rattle.sonsiplex.proofs.sonsiplex_list.Tie as tie

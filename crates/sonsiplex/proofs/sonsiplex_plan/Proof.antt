@@ -1,8 +1,8 @@
 -- `sonsiplex_plan` packs the planner's answer. Assumes nothing.
 use mathlib.Core.Path.{sym, ap, _∙_}
 use native.Mathlib.Omega.{arith}
-use Rattle.packing.specs.Packing.{planNumbers}
-use Rattle.sonsiplex.proofs.Packing.{packed, plan-fit}
+use Rattle.sonsiplex.specs.Packing.{planNumbers}
+use Rattle.sonsiplex.proofs.Exported.{packed, plan-fit}
 use borrow.Author.Needs.{needs}
 use Rattle.sonsiplex.proofs.sonsiplex_plan.Statement.{statement}
 use Rattle.sonsiplex.proofs.sonsiplex_plan.Tie as tie

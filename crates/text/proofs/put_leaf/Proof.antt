@@ -1,7 +1,7 @@
 -- `put_leaf` puts the item of a leaf. Assumes nothing.
 use native.Mathlib.Omega.{arith}
-use Rattle.lines.proofs.Lengths.{leaf-length}
-use Rattle.lines.proofs.Puts.{placed-put}
+use Rattle.text.proofs.Lengths.{leaf-length}
+use Rattle.text.proofs.Puts.{placed-put}
 use borrow.Author.Needs.{needs}
 use Rattle.text.proofs.put_leaf.Statement.{statement}
 use Rattle.text.proofs.put_leaf.Tie as tie

@@ -3,10 +3,10 @@ use mathlib.Core.Path.{_≡_, refl, _∙_}
 use Prim.Native.Nat.{_+_, _*_, _-_, _≤_}
 use native.Mathlib.Omega.{arith}
 use lib.ListN.{length}
-use Rattle.text.proofs.Lines.{start, turn}
-use Rattle.lines.proofs.Puts.{none}
+use Rattle.text.proofs.LineLaws.{start, turn}
+use Rattle.text.proofs.Puts.{none}
 use Rattle.text.specs.Listing.{lineAt, linesFrom}
-use Rattle.lines.specs.Put.{Put}
+use Rattle.text.specs.Mirror.Put.{Put}
 use Rattle.text.proofs.put_leaves.Statement.{statement}
 use Rattle.text.proofs.put_leaves.Tie as tie
 

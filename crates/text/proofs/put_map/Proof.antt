@@ -1,7 +1,7 @@
 -- `put_map` puts the count, the leaves and both plans. Assumes nothing.
 use native.Mathlib.Omega.{arith}
-use Rattle.lines.proofs.Puts.{then, placed-put}
-use Rattle.lines.proofs.Lengths.{leaves-length}
+use Rattle.text.proofs.Puts.{then, placed-put}
+use Rattle.text.proofs.Lengths.{leaves-length}
 use Rattle.text.specs.Listing.{mapLines}
 use borrow.Author.Needs.{needs}
 use Rattle.text.proofs.put_map.Statement.{statement}

@@ -1,7 +1,7 @@
 -- `put_plan` puts the planner's answer. Assumes nothing.
 use native.Mathlib.Omega.{arith}
-use Rattle.lines.proofs.Lengths.{register-length}
-use Rattle.lines.proofs.Puts.{placed-put}
+use Rattle.text.proofs.Lengths.{register-length}
+use Rattle.text.proofs.Puts.{placed-put}
 use borrow.Author.Needs.{needs}
 use Rattle.text.proofs.put_plan.Statement.{statement}
 use Rattle.text.proofs.put_plan.Tie as tie

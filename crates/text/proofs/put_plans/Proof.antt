@@ -1,6 +1,6 @@
 -- `put_plans` puts the planner's answer for each level. Assumes nothing.
 use native.Mathlib.Omega.{arith}
-use Rattle.lines.proofs.Puts.{then, placed-put}
+use Rattle.text.proofs.Puts.{then, placed-put}
 use Rattle.text.specs.Listing.{planLines}
 use borrow.Author.Needs.{needs}
 use Rattle.text.proofs.put_plans.Statement.{statement}

@@ -1,7 +1,7 @@
 -- `put_refusal` puts the item of a refusal. Assumes nothing.
 use native.Mathlib.Omega.{arith}
-use Rattle.lines.proofs.Lengths.{refusal-length}
-use Rattle.lines.proofs.Puts.{placed-put}
+use Rattle.text.proofs.Lengths.{refusal-length}
+use Rattle.text.proofs.Puts.{placed-put}
 use borrow.Author.Needs.{needs}
 use Rattle.text.proofs.put_refusal.Statement.{statement}
 use Rattle.text.proofs.put_refusal.Tie as tie

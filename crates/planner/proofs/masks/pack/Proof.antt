@@ -3,8 +3,8 @@ use borrow.Author.Needs.{needs}
 use native.Mathlib.Omega.{arith}
 use mathlib.Core.Path.{_≡_, refl, sym, ap, _∙_}
 use Prim.Native.Nat.{ℕ, _+_, _-_, _*_, _≤_}
-use Rattle.plan.specs.Register.{packFrom}
-use Rattle.plan.proofs.Packing.{pack-lt-28, pack-turn}
+use Rattle.planner.specs.Register.{packFrom}
+use Rattle.planner.proofs.Packing.{pack-lt-28, pack-turn}
 use Rattle.planner.proofs.masks.pack.Statement.{statement}
 use Rattle.planner.proofs.masks.pack.Tie as tie
 

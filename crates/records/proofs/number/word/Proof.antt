@@ -13,12 +13,12 @@ add-half c = search needs
 half-requires-2 : tie.Need-half-requires-2
 half-requires-2 c κs = search needs
 
-eight-requires : tie.Need-eight-requires
-eight-requires c κs = search needs
+join64-requires : tie.Need-join64-requires
+join64-requires c κs = search needs
 
 returns : tie.Need-returns
 unfolding le64
-returns c = rw (c .eight .ensures, c .before .half2 .ensures .0, c .before .before .half .ensures .0)
+returns c = rw (c .join64 .ensures, c .before .half2 .ensures .0, c .before .before .half .ensures .0)
 
 pub word-spec : {M : Type 1} → statement M
-word-spec = tie.close (tie.spec half-requires add-half half-requires-2 eight-requires returns)
+word-spec = tie.close (tie.spec half-requires add-half half-requires-2 join64-requires returns)

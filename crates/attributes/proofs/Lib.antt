@@ -1,0 +1,7 @@
+pub mod Laws
+pub mod Table
+pub mod Codes
+pub mod SourceTables
+pub mod Sources
+pub mod Cases
+pub mod Theorems

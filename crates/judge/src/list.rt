@@ -1,0 +1,123 @@
+// A list of leaves: one rights byte each, all or nothing. A refused list changes no lent byte.
+ghost use mathlib.Core.Path.{_≡_};
+ghost use Prim.Native.Nat.{_+_, _*_, _≤_};
+ghost use lib.ListN.{length};
+ghost use Rattle.records.specs.Setup.{setupFrom};
+ghost use Rattle.judge.specs.Demands.{ListDemands};
+ghost use Rattle.judge.specs.List.{walk, listCheck, listOf};
+ghost use Rattle.judge.specs.Mirror.Walked.{Tables, passAt, walkIn};
+use crate::answers::LeafRights;
+use crate::answers::Listed;
+use crate::pass::leaf::leaf_rights;
+use crate::pass::quick::quick_rights;
+use crate::pass::slots::slot_table;
+use attributes::pass::attribute_table;
+use records::check::Check;
+use records::check::check_if;
+use records::check::number_of;
+use records::leaf::LeafRead;
+use records::setup::Control;
+use records::setup::Words;
+use records::setup::WordsRead;
+use rights::pass::table::base_table;
+
+// The rights of leaf `i`, where `base`, `slots` and `attributes` are the setup's tables: quick where no access is refused.
+fn pass_at(
+    q: Words,
+    base: &[u16; 16],
+    slots: &[u8; 16],
+    attributes: &[u8; 32],
+    leaves: &[u8],
+    i: usize,
+) -> LeafRights
+    requires { ⌜ (i * 18 + 18 ≤ length (now leaves)) × Tables q (now base) (now slots) (now attributes) ⌝ }
+    ensures { λ r. ⌜ r ≡ passAt (setupFrom q) (now (leaves .entry)) i ⌝ }
+{
+    let from = i * 18;
+    let to = from + 18;
+    let LeafRead::Read(l) = records::leaf::read_leaf(&leaves[from..to]) else {
+        return LeafRights::Refused(13);
+    };
+    let rights = quick_rights(q, base, slots, attributes, l);
+    if rights < 64 {
+        return LeafRights::Rights(rights);
+    }
+    leaf_rights(q, base, l)
+}
+
+// Puts the rights of `n` leaves at the start of `buf`, up to the first leaf that is refused.
+fn fill(
+    q: Words,
+    base: &[u16; 16],
+    slots: &[u8; 16],
+    attributes: &[u8; 32],
+    leaves: &[u8],
+    n: usize,
+    buf: &mut [u8],
+) -> Listed
+    requires { ⌜ (n * 18 ≤ length (now leaves)) × (n ≤ length (now buf)) × Tables q (now base) (now slots) (now attributes) ⌝ }
+    ensures { λ r. ⌜ walk (passAt (setupFrom q) (now (leaves .entry))) 0 n ≡ walkIn r n (now (buf .exit)) ⌝ }
+{
+    let mut i: usize = 0;
+    while i < n {
+        match pass_at(q, base, slots, attributes, leaves, i) {
+            LeafRights::Rights(b) => {
+                buf[i] = b;
+            }
+            LeafRights::Refused(k) => {
+                return Listed::Refused { number: k, leaf: i };
+            }
+        }
+        i += 1;
+    }
+    Listed::Done(i)
+}
+
+// 1, 2, 3, then 11, for a list of `len` bytes and an output of `room` bytes.
+fn check_list(c: Control, len: usize, room: usize) -> Check
+    ensures { λ r. ⌜ r ≡ listCheck c len room ⌝ }
+{
+    let check = rights::checks::check_setup(c);
+    let Check::Passes = check else {
+        return check;
+    };
+    let n = len / 18;
+    check_if(!((len % 18 == 0) & (n <= 2048) & (n <= room)), 11)
+}
+
+// The list: 13, 1, 2, 3, 11, then its leaves in order. One rights byte per leaf goes to the start of `out`, and later bytes keep their
+// values; a refusal changes no lent byte.
+pub fn list_rights(setup: &[u8], leaves: &[u8], out: &mut [u8]) -> Listed
+    ensures answer { λ r. ⌜ r ≡ listOf (now (setup .entry)) (now (leaves .entry)) (now (out .entry)) .answer ⌝ }
+    ensures out { λ r. ⌜ now (out .exit) ≡ listOf (now (setup .entry)) (now (leaves .entry)) (now (out .entry)) .out ⌝ }
+    ensures demands { λ r. ⌜ ListDemands (now (setup .entry)) (now (leaves .entry)) (now (out .entry)) r (now (out .exit)) ⌝ }
+{
+    let WordsRead::Read(q) = records::setup::read_words(setup) else {
+        return Listed::Refused {
+            number: 13,
+            leaf: 0,
+        };
+    };
+    let check = check_list(
+        records::setup::read_control(q.control),
+        leaves.len(),
+        out.len(),
+    );
+    let Check::Passes = check else {
+        return Listed::Refused {
+            number: number_of(check),
+            leaf: 0,
+        };
+    };
+    let n = leaves.len() / 18;
+    let mut rights = [0u8; 2048];
+    let base = base_table(q.control, q.pir.privileged, q.pir.unprivileged);
+    let slots = slot_table(q.control, q.por.privileged, q.por.unprivileged);
+    let attributes = attribute_table(q.control, q.mair, q.mair2);
+    let listed = fill(q, &base, &slots, &attributes, leaves, n, &mut rights);
+    let Listed::Done(_) = listed else {
+        return listed;
+    };
+    bytes::copy(&rights[..n], out);
+    Listed::Done(n)
+}

@@ -1,5 +1,0 @@
-pub mod Register
-pub mod Level
-pub mod Pass
-pub mod Masks
-pub mod Table

@@ -1,4 +1,0 @@
-pub mod Direct
-pub mod Base
-pub mod Indirect
-pub mod Masks

@@ -1,4 +1,0 @@
-pub mod Register
-pub mod Plan
-pub mod Demand3
-pub mod Masks

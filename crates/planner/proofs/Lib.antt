@@ -1,0 +1,11 @@
+pub mod Bits
+pub mod Packing
+pub mod CutLaws
+pub mod Turns
+pub mod Promise
+pub mod Leaves
+pub mod StartLaws
+pub mod Theorem
+pub mod Consequences
+pub mod Bounds
+pub mod MaskLaws

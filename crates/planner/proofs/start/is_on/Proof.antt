@@ -1,0 +1,13 @@
+-- `is_on` meets its contract: the bit of the level. Assumes nothing.
+use borrow.Author.Needs.{needs}
+use Rattle.planner.proofs.start.is_on.Statement.{statement}
+use Rattle.planner.proofs.start.is_on.Tie as tie
+
+bit-of-requires : tie.Need-bit-of-requires
+bit-of-requires c κs = search needs
+
+returns : tie.Need-returns
+returns c = rw (c .before .bit-of .ensures)
+
+pub is-on-spec : {M : Type 1} → statement M
+is-on-spec = tie.close (tie.spec bit-of-requires returns)

@@ -1,0 +1,4 @@
+pub mod Register
+pub mod Plan
+pub mod Demand3
+pub mod Mirror

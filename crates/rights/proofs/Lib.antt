@@ -1,0 +1,12 @@
+pub mod Tables
+pub mod BaseMasks
+pub mod AnswerSteps
+pub mod OrderLaws
+pub mod Named
+pub mod Agree
+pub mod LevelLaws
+pub mod Ranges
+pub mod Stage2Tables
+pub mod Masks
+pub mod Table
+pub mod PromiseLaws

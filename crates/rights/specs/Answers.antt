@@ -1,0 +1,41 @@
+-- Document 01, 'The order a judgement is made in': 'the first that applies is the answer'. Assumes nothing.
+use Prim.Native.Nat.{ℕ}
+use mathlib.Core.Bool.{Bool, true, false, cond}
+use Rattle.records.specs.declared.check.Check.{Check}
+use Rattle.records.specs.declared.check.Check.the-variants as check
+use Rattle.rights.specs.declared.answers.Answer.{Answer}
+use Rattle.rights.specs.declared.answers.Answer.the-variants.{Permitted, Fault, Refused}
+use Rattle.rights.specs.declared.answers.Kind.{Kind}
+use Rattle.rights.specs.declared.answers.Kind.the-variants.{Translation, AccessFlag}
+
+-- a step's answer, and what follows it: a fault or refusal stands
+abbrev pub follow : Answer → Answer → Answer
+follow Permitted b = b
+follow (Fault f) b = Fault f
+follow (Refused n) b = Refused n
+
+-- a fault carries its stage and kind
+abbrev pub faultOf : ℕ → Kind → Answer
+faultOf s k = Fault (record { stage = s; kind = k })
+
+abbrev pub faultUnless : Bool → ℕ → Kind → Answer
+faultUnless ok s k = cond ok Permitted (faultOf s k)
+
+abbrev pub refuseIf : Bool → ℕ → Answer
+refuseIf bad n = cond bad (Refused n) Permitted
+
+-- a check as an answer
+abbrev pub answerOf : Check → Answer
+answerOf check.Passes = Permitted
+answerOf (check.Refused n) = Refused n
+
+-- an access is permitted by the answer
+abbrev pub permitted : Answer → Bool
+permitted Permitted = true
+permitted (Fault f) = false
+permitted (Refused n) = false
+
+-- the first steps of a stage: Translation fault (valid clear), Access flag fault (AF clear), 7 for dirty state
+abbrev pub descriptorAnswer : ℕ → Bool → Bool → Bool → Answer
+descriptorAnswer s valid af dirty =
+    follow (faultUnless valid s Translation) (follow (faultUnless af s AccessFlag) (refuseIf dirty 7))

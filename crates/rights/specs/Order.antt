@@ -1,0 +1,42 @@
+-- Document 01, 'The order a judgement is made in', up to the attribute steps. Assumes nothing.
+use Prim.Native.Nat.{ℕ}
+use mathlib.Core.Bool.{cond}
+use Rattle.records.specs.Descriptor.{stage1Of, stage2Of, limitsOf}
+use Rattle.records.specs.declared.access.Access.{Access}
+use Rattle.records.specs.declared.descriptor.Limits.{Limits}
+use Rattle.records.specs.declared.descriptor.Stage1.{Stage1}
+use Rattle.records.specs.declared.descriptor.Stage2.{Stage2}
+use Rattle.records.specs.declared.leaf.Leaf.{Leaf}
+use Rattle.records.specs.declared.setup.Setup.{Setup}
+use Rattle.rights.specs.Answers.{follow, answerOf}
+use Rattle.rights.specs.Checks.{setupCheck, accessCheck, leafCheck}
+use Rattle.rights.specs.Stage1.{stage1Answer}
+use Rattle.rights.specs.Stage2.{stage2Answer}
+use Rattle.rights.specs.declared.answers.Answer.{Answer}
+use Rattle.rights.specs.declared.answers.Answer.the-variants.{Permitted, Refused}
+use Rattle.rights.specs.declared.checks.AccessCheck.{AccessCheck}
+use Rattle.rights.specs.declared.checks.AccessCheck.the-variants as access
+
+-- stage 1, if on, then stage 2, if on. A stage that is off permits everything, and its descriptor is ignored
+unfoldable pub stagesAnswer : Setup → Stage1 → Stage2 → Limits → Access → Answer
+stagesAnswer s d e t a =
+    follow (cond (s .control .stage1) (stage1Answer s d t a) Permitted)
+    (cond (s .control .stage2) (stage2Answer e a) Permitted)
+
+-- the stages of a leaf
+abbrev pub leafAnswer : Setup → Leaf → Access → Answer
+leafAnswer s f a = stagesAnswer s (stage1Of (f .stage1)) (stage2Of (f .stage2)) (limitsOf (f .limits)) a
+
+-- a refused access number
+abbrev pub accessRefusal : AccessCheck → Answer
+accessRefusal (access.Known a) = Permitted
+accessRefusal (access.Refused n) = Refused n
+
+-- 4, 5, then the stages
+abbrev pub afterAccess : Setup → Leaf → AccessCheck → Answer
+afterAccess s f (access.Known a) = follow (answerOf (leafCheck f)) (leafAnswer s f a)
+afterAccess s f (access.Refused n) = Refused n
+
+-- 1, 2, 3, 4, 5, then stage 1, then stage 2
+unfoldable pub rightsAnswer : Setup → Leaf → ℕ → Answer
+rightsAnswer s f n = follow (answerOf (setupCheck (s .control))) (afterAccess s f (accessCheck (s .control .two) n))
