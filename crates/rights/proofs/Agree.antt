@@ -151,7 +151,7 @@ accesses y m =
 abbrev passed : (LevelRights → LevelRights → LevelAnswer) → List Bool → LevelAnswer × LevelRights
 passed y m = (
   cond (pick m 3 && pick m 4 && any (three (pick m 0) (pick m 1) (pick m 2))) (LevelAnswer.Refused 6)
-  (y (overlaid (pick m 3) (three (pick m 5) (pick m 6) (pick m 7)) (three (pick m 0) (pick m 1) (pick m 2))) (three (pick m 8) (pick m 9) (pick m 10))),
+      (y (overlaid (pick m 3) (three (pick m 5) (pick m 6) (pick m 7)) (three (pick m 0) (pick m 1) (pick m 2))) (three (pick m 8) (pick m 9) (pick m 10))),
   none,
 )
 
