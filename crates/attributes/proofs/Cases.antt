@@ -1,6 +1,5 @@
--- Document 01, 'Numbers to check against': what cases a and h to m say of the attribute steps, by computation; and the sentences of
--- 'Memory type and shareability' and of the order that no case reaches. Numbers are hexadecimal in comments. MAIR is 4FAA0444FF00.
--- Assumes nothing.
+-- The sentences of document 01, 'Memory type and shareability' and the order, that no case of 'Numbers to check against' reaches, by
+-- computation. Numbers are hexadecimal in comments. MAIR is 4FAA0444FF00. Assumes nothing.
 use mathlib.Core.Path.{_≡_, refl}
 use mathlib.Core.List.{[], _∷_}
 use mathlib.Core.Bool.{Bool, true, false}
@@ -16,7 +15,7 @@ use Rattle.records.specs.Setup.{controlOf}
 use Rattle.records.specs.Descriptor.{stage1Of, stage2Of}
 use Rattle.records.specs.declared.setup.Setup.{Setup}
 
--- the setup of these cases with a control word; MAIR2 is F0AA00
+-- a setup with a control word; MAIR2 is F0AA00
 abbrev setup : ℕ → Setup
 setup w = record {
   control = controlOf w;
@@ -31,15 +30,6 @@ answer w d e fetch = attributesOf (setup w) (stage1Of d) (stage2Of e) fetch
 
 abbrev memory : ℕ → ℕ → ℕ → Attributes
 memory o i sh = Combined (record { byte = nibbles o i; sh = sh })
-
--- a: 747, 7FF; h: 747, 7D7; i: 74F, 7CF; with FWB, j: 753, 7DB; k: 757, 7DF; l: 74F, 7DB; m: 747, 7FF
-pub cases :
-    answer 7 1863 2047 false ∷ answer 7 1863 2007 false ∷ answer 7 1871 1999 false ∷
-    answer 519 1875 2011 false ∷ answer 519 1879 2015 false ∷ answer 519 1871 2011 false ∷ answer 519 1863 2047 false ∷ []
-    ≡ memory 15 15 3 ∷ memory 4 4 2 ∷ memory 0 4 2 ∷
-    memory 14 14 3 ∷ memory 4 15 3 ∷ memory 15 15 2 ∷ Refused 8 ∷ []
-unfolding controlOf stage1Of stage2Of mairByte offByte stage1Byte reservedByte memAttrOf reservedMemAttr combine resultOf resultByte reservedSH stage1SH stage2SH combinedSH resultSH checkOf memoryOf attributesOf
-cases = refl
 
 -- First, stage 1 off, stage 2 with MemAttr F and SH 0 (4FD): with DC; data; a fetch, instruction cacheable and not; with both off, data.
 -- Second, stage 2 off, its descriptor ignored (1D1 has MemAttr 4 and SH 01): AttrIndx[3] with index 1 (747), with AIE and without it; and

@@ -1,16 +1,19 @@
 -- The bits of a leaf's rights and the bytes of a list, read back: bit a is on exactly where access a is allowed. Assumes nothing.
 use Rattle.records.proofs.Cases.{clash, at, each}
 use mathlib.Core.Path.{_≡_, refl, sym, ap, _∙_}
-use mathlib.Core.Bool.{Bool, true, false, cond, _&&_}
+use mathlib.Core.Bool.{Bool, true, false, _&&_}
 use mathlib.Core.List.{List, [], _∷_}
-use Prim.Native.Nat.{ℕ, zero, suc, _+_, _*_, _<_}
-use native.Mathlib.Nat.{add-zero, zero-add, add-suc, suc-add, mul-one, mul-zero, le-of-suc-le-suc, not-suc-le-zero}
-use lib.Dec.{ltb}
+use Prim.Native.Nat.{ℕ, zero, suc, _+_, _*_, _/_, _%_, _^_, _≤_, _<_}
+use native.Mathlib.Nat.{add-zero, zero-add, add-suc, suc-add, mul-one, mul-zero, le-of-suc-le-suc, not-suc-le-zero, div-eq-of-lt}
+use lib.Dec.{eqb, leb, ltb}
 use lib.ListN.{length, getD}
+use borrow.Author.Tests.{ltb-true, leb-true, leb-false, lt-leb}
+use native.Mathlib.Omega.{arith}
+use lib.Pow.{pow-mono}
 use Rattle.records.specs.Bits.{bit}
 use Rattle.records.specs.declared.leaf.Leaf.{Leaf}
 use Rattle.records.specs.declared.setup.Setup.{Setup}
-use Rattle.judge.specs.Demands.{isAllowed, judgedBit}
+use Rattle.judge.specs.Demands.{isJudged}
 use Rattle.judge.specs.Judge.{judged}
 use Rattle.judge.specs.LeafRights.{add, gather, judgedAccesses, leafRights}
 use Rattle.judge.specs.List.{Walk, bytes, refused, step, walk}
@@ -19,6 +22,12 @@ use Rattle.judge.specs.declared.answers.Judgement.{Judgement}
 use Rattle.judge.specs.declared.answers.Judgement.the-variants as judgement
 use Rattle.judge.specs.declared.answers.LeafRights.{LeafRights}
 use Rattle.judge.specs.declared.answers.LeafRights.the-variants.{Rights, Refused}
+
+-- an access is allowed
+abbrev pub isAllowed : Judgement → Bool
+isAllowed (judgement.Allowed m) = true
+isAllowed (judgement.Fault g) = false
+isAllowed (judgement.Refused n) = false
 
 -- the weight of an access in rights
 weighed : (j : Judgement) (w b : ℕ) (g : LeafRights) → add j w g ≡ Rights b → (c : ℕ) × (g ≡ Rights c) × (b ≡ w * digit (isAllowed j) + c)
@@ -45,9 +54,19 @@ bitsOf x = bit x 0 ∷ bit x 1 ∷ bit x 2 ∷ bit x 3 ∷ bit x 4 ∷ bit x 5 �
 bits-are : (p q r s t u : Bool) → bitsOf (number (p ∷ q ∷ r ∷ s ∷ t ∷ u ∷ [])) ≡ p ∷ q ∷ r ∷ s ∷ t ∷ u ∷ []
 bits-are p q r s t u = each (p ∷ q ∷ r ∷ s ∷ t ∷ u ∷ []) (λ m. bitsOf (number m)) six refl
 
--- the bits of a leaf's rights
-leaf-bits-two : (j : ℕ → Judgement) (b : ℕ) → gather j (judgedAccesses true) ≡ Rights b → (a : ℕ) → a < 6 → bit b a ≡ isAllowed (j a)
-leaf-bits-two j b e a h =
+small : (p q r s t u : Bool) → number (p ∷ q ∷ r ∷ s ∷ t ∷ u ∷ []) < 64
+small p q r s t u = ltb-true _ _ (each (p ∷ q ∷ r ∷ s ∷ t ∷ u ∷ []) (λ m. ltb (number m) 64) (λ m. true) refl)
+
+-- a number below 64 has no bit above 5
+high : (b a : ℕ) → b < 64 → 5 < a → bit b a ≡ false
+high b a h k =
+    let e : b / 2 ^ a ≡ 0 = div-eq-of-lt (omega (arith, pow-mono {i = 6} {j = a} k)) in
+    ap (λ (x : ℕ). eqb (x % 2) 1) e
+
+-- the bits of a leaf's rights, by how many accesses are judged
+leaf-bits-two : (j : ℕ → Judgement) (b : ℕ) → gather j (judgedAccesses true) ≡ Rights b
+    → (b < 64) × ((a : ℕ) → a < 6 → bit b a ≡ (leb a 5 && isAllowed (j a)))
+leaf-bits-two j b e =
     let u = weighed (j 0) 1 b _ e in
     let v = weighed (j 1) 2 (u .0) _ (u .1) in
     let w = weighed (j 2) 4 (v .0) _ (v .1) in
@@ -56,28 +75,38 @@ leaf-bits-two j b e a h =
     let z = weighed (j 5) 32 (y .0) _ (y .1) in
     let n = none (z .0) (z .1) in
     let q : b ≡ number (isAllowed (j 0) ∷ isAllowed (j 1) ∷ isAllowed (j 2) ∷ isAllowed (j 3) ∷ isAllowed (j 4) ∷ isAllowed (j 5) ∷ []) =
-    rw (u .2, v .2, w .2, x .2, y .2, z .2, n) in
-    at 6 (λ (k : ℕ). bit b k) (λ (k : ℕ). isAllowed (j k))
-    (ap bitsOf q ∙ bits-are (isAllowed (j 0)) (isAllowed (j 1)) (isAllowed (j 2)) (isAllowed (j 3)) (isAllowed (j 4)) (isAllowed (j 5))) a h
+    rw (u .2, v .2, w .2, x .2, y .2, z .2, n) in (
+      rw q (small (isAllowed (j 0)) (isAllowed (j 1)) (isAllowed (j 2)) (isAllowed (j 3)) (isAllowed (j 4)) (isAllowed (j 5))),
+      λ a h. at 6 (λ (k : ℕ). bit b k) (λ (k : ℕ). leb k 5 && isAllowed (j k))
+          (ap bitsOf q ∙ bits-are (isAllowed (j 0)) (isAllowed (j 1)) (isAllowed (j 2)) (isAllowed (j 3)) (isAllowed (j 4)) (isAllowed (j 5))) a h,
+    )
 
-leaf-bits-one : (j : ℕ → Judgement) (b : ℕ) → gather j (judgedAccesses false) ≡ Rights b → (a : ℕ) → a < 6 → bit b a ≡ (ltb a 3 && isAllowed (j a))
-leaf-bits-one j b e a h =
+leaf-bits-one : (j : ℕ → Judgement) (b : ℕ) → gather j (judgedAccesses false) ≡ Rights b
+    → (b < 64) × ((a : ℕ) → a < 6 → bit b a ≡ (leb a 2 && isAllowed (j a)))
+leaf-bits-one j b e =
     let u = weighed (j 0) 1 b _ e in
     let v = weighed (j 1) 2 (u .0) _ (u .1) in
     let w = weighed (j 2) 4 (v .0) _ (v .1) in
     let n = none (w .0) (w .1) in
-    let q : b ≡ number (isAllowed (j 0) ∷ isAllowed (j 1) ∷ isAllowed (j 2) ∷ false ∷ false ∷ false ∷ []) = rw (u .2, v .2, w .2, n) in
-    at 6 (λ (k : ℕ). bit b k) (λ (k : ℕ). ltb k 3 && isAllowed (j k))
-    (ap bitsOf q ∙ bits-are (isAllowed (j 0)) (isAllowed (j 1)) (isAllowed (j 2)) false false false) a h
+    let q : b ≡ number (isAllowed (j 0) ∷ isAllowed (j 1) ∷ isAllowed (j 2) ∷ false ∷ false ∷ false ∷ []) = rw (u .2, v .2, w .2, n) in (
+      rw q (small (isAllowed (j 0)) (isAllowed (j 1)) (isAllowed (j 2)) false false false),
+      λ a h. at 6 (λ (k : ℕ). bit b k) (λ (k : ℕ). leb k 2 && isAllowed (j k))
+          (ap bitsOf q ∙ bits-are (isAllowed (j 0)) (isAllowed (j 1)) (isAllowed (j 2)) false false false) a h,
+    )
 
-pub leaf-bits : (s : Setup) (l : Leaf) (b : ℕ) → leafRights s l ≡ Rights b → (a : ℕ) → a < 6 → bit b a ≡ judgedBit s l a
+-- bit a is on exactly where access a is judged and allowed
+pub leaf-bits : (s : Setup) (l : Leaf) (b : ℕ) → leafRights s l ≡ Rights b → (a : ℕ) → bit b a ≡ (isJudged (s .control .two) a && isAllowed (judged s l a))
 unfolding leafRights
-leaf-bits s l b e a h = go (s .control .two) e
+leaf-bits s l b e a = go (s .control .two) e
   where
-    go : (two : Bool) → gather (judged s l) (judgedAccesses two) ≡ Rights b
-        → bit b a ≡ cond two (isAllowed (judged s l a)) (ltb a 3 && isAllowed (judged s l a))
-    go true q = leaf-bits-two (judged s l) b q a h
-    go false q = leaf-bits-one (judged s l) b q a h
+    above : (m : ℕ) → m ≤ 5 → b < 64 → ((k : ℕ) → k < 6 → bit b k ≡ (leb k m && isAllowed (judged s l k))) → (t : Bool) → leb a 5 ≡ t
+        → bit b a ≡ (leb a m && isAllowed (judged s l a))
+    above m g h f true q = f a (let k = leb-true a 5 q in omega arith)
+    above m g h f false q = let k = leb-false a 5 q in high b a h k ∙ rw (lt-leb a m (omega arith))
+
+    go : (two : Bool) → gather (judged s l) (judgedAccesses two) ≡ Rights b → bit b a ≡ (isJudged two a && isAllowed (judged s l a))
+    go true q = let x = leaf-bits-two (judged s l) b q in above 5 (omega arith) (x .0) (x .1) (leb a 5) refl
+    go false q = let x = leaf-bits-one (judged s l) b q in above 2 (omega arith) (x .0) (x .1) (leb a 5) refl
 
 -- a step that goes on
 stepped : (x : LeafRights) (k : ℕ) (w : Walk) (bs : List ℕ) → step x k w ≡ bytes bs

@@ -18,7 +18,7 @@ use Rattle.judge.specs.declared.answers.LeafRights.{LeafRights}
 use Rattle.judge.specs.declared.answers.LeafRights.the-variants as leaf
 use Rattle.judge.specs.declared.answers.Listed.{Listed}
 use Rattle.judge.specs.declared.answers.Listed.the-variants.{Done, Refused}
-use Rattle.judge.proofs.ListLaws.{fitting}
+use Rattle.judge.proofs.Fitting.{fitting}
 
 pub data Within : Listed → Type 0 where
   done : (n : ℕ) → n ≤ 2048 → Within (Done n)

@@ -1,6 +1,7 @@
--- The starred cases, as one statement by computation; with them the rights of cases a and c. Assumes nothing.
+-- The starred cases, as one statement by computation. Assumes nothing.
 use mathlib.Core.Path.{_≡_, refl}
-use mathlib.Core.List.{map, _∷_, []}
+use mathlib.Core.List.{List, map}
+use Prim.Native.Nat.{ℕ}
 use Rattle.records.specs.Bytes.{le64}
 use Rattle.records.specs.Leaf.{leafOf, readLeaf}
 use Rattle.records.specs.Descriptor.{limitsOf, stage1Of, stage2Of}
@@ -15,21 +16,20 @@ use Rattle.attributes.specs.Mair.{mairByte, offByte, stage1Byte, reservedByte}
 use Rattle.attributes.specs.Order.{memoryOf, checkOf, attributesOf}
 use Rattle.attributes.specs.Shareability.{reservedSH, stage1SH, stage2SH, combinedSH, resultSH}
 use Rattle.attributes.specs.StageTwoType.{memAttrOf, reservedMemAttr}
-use Rattle.judge.specs.Cases.{Case, setupBytes, leafBytes, starred, plain, mair}
+use Rattle.judge.specs.Cases.{Case, setupBytes, leafBytes, starred, mair}
 use Rattle.judge.specs.Judge.{judged, judgeOf}
 use Rattle.judge.specs.LeafRights.{leafRights}
 use Rattle.judge.specs.declared.answers.Judgement.{Judgement}
+use Rattle.judge.specs.declared.answers.LeafRights.{LeafRights}
 use Rattle.judge.specs.declared.answers.LeafRights.the-variants.{Rights}
 
--- the judge's answer to a case
-abbrev answered : Case → Judgement
-answered c = judgeOf (setupBytes (c .control) mair) (leafBytes (c .stage1) (c .stage2) (c .limits)) (c .access)
+-- the judge's answer to a case, and its leaf's rights where the table has them
+abbrev answered : Case → Judgement × List LeafRights
+answered c =
+    let s = setupBytes (c .control) mair in
+    let f = leafBytes (c .stage1) (c .stage2) (c .limits) in
+    (judgeOf s f (c .access), map (λ (n : ℕ). leafRights (setupOf s) (leafOf f)) (c .rights))
 
-pub starred-cases : map answered starred ≡ map (λ (c : Case). c .answer) starred
-unfolding judgeOf judged readSetup setupOf setupFrom wordsOf controlOf le64 readLeaf leafOf limitsOf stage1Of stage2Of baseAnswer ap directTwo directOne directOf setupCheck accessCheck leafCheck stage1Answer stagesAnswer rightsAnswer xnPx xnUx stage2Rights stage2Answer combine resultOf resultByte mairByte offByte stage1Byte reservedByte memoryOf checkOf attributesOf reservedSH stage1SH stage2SH combinedSH resultSH memAttrOf reservedMemAttr
+pub starred-cases : map answered starred ≡ map (λ (c : Case). (c .answer, map Rights (c .rights))) starred
+unfolding judgeOf leafRights judged readSetup setupOf setupFrom wordsOf controlOf le64 readLeaf leafOf limitsOf stage1Of stage2Of baseAnswer ap directTwo directOne directOf setupCheck accessCheck leafCheck stage1Answer stagesAnswer rightsAnswer xnPx xnUx stage2Rights stage2Answer combine resultOf resultByte mairByte offByte stage1Byte reservedByte memoryOf checkOf attributesOf reservedSH stage1SH stage2SH combinedSH resultSH memAttrOf reservedMemAttr
 starred-cases = refl
-
--- case a: rights 59; case c, with limits 2: rights 45
-pub case-rights : leafRights (setupOf (setupBytes plain mair)) (leafOf (leafBytes 0x747 0x7FF 0)) ∷ leafRights (setupOf (setupBytes plain mair)) (leafOf (leafBytes 0x747 0x7FF 2)) ∷ [] ≡ Rights 59 ∷ Rights 45 ∷ []
-unfolding leafRights judged setupOf setupFrom wordsOf controlOf le64 leafOf limitsOf stage1Of stage2Of baseAnswer ap directTwo directOne directOf setupCheck accessCheck leafCheck stage1Answer stagesAnswer rightsAnswer xnPx xnUx stage2Rights stage2Answer combine resultOf resultByte mairByte offByte stage1Byte reservedByte memoryOf checkOf attributesOf reservedSH stage1SH stage2SH combinedSH resultSH memAttrOf reservedMemAttr
-case-rights = refl

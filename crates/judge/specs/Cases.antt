@@ -21,6 +21,7 @@ setupBytes control mair = bytesOf 4 control ++ (bytesOf 8 mair ++ replicate 40 0
 abbrev pub leafBytes : ℕ → ℕ → ℕ → List ℕ
 leafBytes one two limits = bytesOf 8 one ++ (bytesOf 8 two ++ (limits ∷ 0 ∷ []))
 
+-- a row; its last column is the leaf's rights where the paper has them
 pub record Case : Type 0 where
   pub control : ℕ
   pub limits : ℕ
@@ -28,9 +29,10 @@ pub record Case : Type 0 where
   pub stage2 : ℕ
   pub access : ℕ
   pub answer : Judgement
+  pub rights : List ℕ
 
-abbrev pub row : ℕ → ℕ → ℕ → ℕ → ℕ → Judgement → Case
-row c t one two n j = record { control = c; limits = t; stage1 = one; stage2 = two; access = n; answer = j }
+abbrev pub row : ℕ → ℕ → ℕ → ℕ → ℕ → Judgement → List ℕ → Case
+row c t one two n j r = record { control = c; limits = t; stage1 = one; stage2 = two; access = n; answer = j; rights = r }
 
 abbrev pub allowed : ℕ → ℕ → Judgement
 allowed b sh = Allowed (record { byte = b; sh = sh })
@@ -48,18 +50,18 @@ fwb = 0x207
 -- a to l
 abbrev pub starred : List Case
 starred =
-    row plain 0 0x747 0x7FF 4 (allowed 0xFF 3) ∷
-    row plain 0 0x747 0x7FF 2 (fault 1 Permission) ∷
-    row plain 2 0x747 0x7FF 2 (allowed 0xFF 3) ∷
-    row plain 0 0x747 0x77F 4 (fault 2 Permission) ∷
-    row plain 2 0x747 0x77F 4 (fault 1 Permission) ∷
-    row plain 0 0x346 0x7FF 0 (fault 1 Translation) ∷
-    row plain 0 0x347 0x7FF 0 (fault 1 AccessFlag) ∷
-    row plain 0 0x747 0x7D7 0 (allowed 0x44 2) ∷
-    row plain 0 0x74F 0x7CF 0 (allowed 0x04 2) ∷
-    row fwb 0 0x753 0x7DB 0 (allowed 0xEE 3) ∷
-    row fwb 0 0x757 0x7DF 0 (allowed 0x4F 3) ∷
-    row fwb 0 0x74F 0x7DB 0 (allowed 0xFF 2) ∷ []
+    row plain 0 0x747 0x7FF 4 (allowed 0xFF 3) (59 ∷ []) ∷
+    row plain 0 0x747 0x7FF 2 (fault 1 Permission) [] ∷
+    row plain 2 0x747 0x7FF 2 (allowed 0xFF 3) (45 ∷ []) ∷
+    row plain 0 0x747 0x77F 4 (fault 2 Permission) [] ∷
+    row plain 2 0x747 0x77F 4 (fault 1 Permission) [] ∷
+    row plain 0 0x346 0x7FF 0 (fault 1 Translation) [] ∷
+    row plain 0 0x347 0x7FF 0 (fault 1 AccessFlag) [] ∷
+    row plain 0 0x747 0x7D7 0 (allowed 0x44 2) [] ∷
+    row plain 0 0x74F 0x7CF 0 (allowed 0x04 2) [] ∷
+    row fwb 0 0x753 0x7DB 0 (allowed 0xEE 3) [] ∷
+    row fwb 0 0x757 0x7DF 0 (allowed 0x4F 3) [] ∷
+    row fwb 0 0x74F 0x7DB 0 (allowed 0xFF 2) [] ∷ []
 
 abbrev pub mair : ℕ
 mair = 0x4FAA0444FF00

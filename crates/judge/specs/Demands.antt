@@ -1,93 +1,143 @@
--- The user's demands 1 and 2, as statements about the judge and the list. The theorems are in proofs/Demands. Assumes nothing.
+-- The user's demands 1 and 2, as statements about the judge and the list on the paper's conditions, never on the program's own answer. The judge and
+-- the list meet them: `judge-met` of proofs/Demands, `list-met` of proofs/ListMet. They leave one outcome for every input: `judge-unique` and
+-- `list-unique`, there too. Assumes nothing.
 use Prim.Native.Nat.{ℕ, _<_, _≤_}
 use mathlib.Core.Path.{_≡_}
-use mathlib.Core.Bool.{Bool, true, false, cond, _&&_}
+use mathlib.Core.Bool.{Bool, cond, not, _&&_}
 use mathlib.Core.List.{List}
 use mathlib.Core.Logic.{_⊎_}
-use lib.Dec.{ltb}
-use lib.ListN.{getD, drop}
+use lib.Dec.{leb}
+use lib.ListN.{length, getD, drop}
 use Rattle.records.specs.Access.{accessAt}
 use Rattle.records.specs.Bits.{bit}
 use Rattle.records.specs.Descriptor.{stage1Of, stage2Of, limitsOf}
-use Rattle.records.specs.Leaf.{readLeaf, leafAt, leafCount}
-use Rattle.records.specs.Setup.{readSetup}
+use Rattle.records.specs.Leaf.{leafOf, leafAt, leafCount}
+use Rattle.records.specs.Setup.{setupOf}
+use Rattle.records.specs.Values.{Values, checkIf, lengthCheck, checkThen, firstOf}
+use Rattle.records.specs.declared.check.Check.{Check}
+use Rattle.records.specs.declared.check.Check.the-variants as check
 use Rattle.records.specs.declared.leaf.Leaf.{Leaf}
-use Rattle.records.specs.declared.leaf.LeafRead.the-variants as leaf
 use Rattle.records.specs.declared.setup.Setup.{Setup}
-use Rattle.records.specs.declared.setup.SetupRead.the-variants as setup
-use Rattle.rights.specs.Stage1.{stage1Answer}
-use Rattle.rights.specs.Stage2.{stage2Answer}
+use Rattle.rights.specs.Answers.{permitted, refusalOf, whereReached}
+use Rattle.rights.specs.Checks.{setupCheck, leafCheck}
+use Rattle.rights.specs.Order.{stage1If, stage2If}
 use Rattle.rights.specs.declared.answers.Answer.{Answer}
 use Rattle.rights.specs.declared.answers.Answer.the-variants as answer
 use Rattle.rights.specs.declared.answers.Fault.{Fault}
-use Rattle.attributes.specs.Order.{memoryOf}
+use Rattle.attributes.specs.Order.{checkOf, memoryOf}
 use Rattle.attributes.specs.declared.Memory.{Memory}
-use Rattle.judge.specs.Answers.{Values, judgementValues}
-use Rattle.judge.specs.Judge.{fetches, judged}
+use Rattle.judge.specs.Answers.{judgementValues}
+use Rattle.judge.specs.Judge.{fetches}
+use Rattle.judge.specs.LeafRights.{judgedAccesses}
+use Rattle.judge.specs.List.{listCheck}
 use Rattle.judge.specs.declared.answers.Judgement.{Judgement}
 use Rattle.judge.specs.declared.answers.Judgement.the-variants as judgement
 use Rattle.judge.specs.declared.answers.Listed.{Listed}
 use Rattle.judge.specs.declared.answers.Listed.the-variants as listed
 
--- an answer that is allowed: neither refused nor a fault
+-- Demand 1: every setup, leaf and access gets one answer. It is allowed,
 abbrev pub AllowedAnswer : Values → Type 0
 AllowedAnswer v = (v .number ≡ 0) × (v .stage ≡ 0) × (v .kind ≡ 0)
 
--- a named fault: stage 1 or 2, and one of the four kinds; byte and SH 0
+-- a named fault, of stage 1 with one of the four kinds or of stage 2 with one of the first three, byte and SH 0,
 abbrev pub FaultAnswer : Values → Type 0
-FaultAnswer v = (v .number ≡ 0) × ((v .stage ≡ 1) ⊎ (v .stage ≡ 2)) × (1 ≤ v .kind) × (v .kind ≤ 4) × (v .byte ≡ 0) × (v .sh ≡ 0)
+FaultAnswer v =
+    (v .number ≡ 0) × (((v .stage ≡ 1) × (v .kind ≤ 4)) ⊎ ((v .stage ≡ 2) × (v .kind ≤ 3))) × (1 ≤ v .kind) × (v .byte ≡ 0) × (v .sh ≡ 0)
 
--- a numbered refusal: 1 to 9 or 13; stage, kind, byte and SH 0
+-- or a numbered refusal, 1 to 9 or 13, with stage, kind, byte and SH 0. The three exclude each other: a refusal alone has a number, a fault alone a stage.
 abbrev pub RefusedAnswer : Values → Type 0
 RefusedAnswer v =
     (((1 ≤ v .number) × (v .number ≤ 9)) ⊎ (v .number ≡ 13)) × (v .stage ≡ 0) × (v .kind ≡ 0) × (v .byte ≡ 0) × (v .sh ≡ 0)
 
--- Demand 1: every setup, leaf and access gets one answer: allowed, a named fault, or a numbered refusal. (The three exclude each other:
--- a refusal alone has a number, and a fault alone a stage.)
 abbrev pub Demand1 : Judgement → Type 0
 Demand1 j =
     AllowedAnswer (judgementValues j) ⊎ (FaultAnswer (judgementValues j) ⊎ RefusedAnswer (judgementValues j))
 
--- what each stage answers, where it is on; a stage that is off permits everything
+-- what each stage answers to access n; a stage that is off permits everything
 abbrev pub stage1 : Setup → Leaf → ℕ → Answer
-stage1 s f n = cond (s .control .stage1) (stage1Answer s (stage1Of (f .stage1)) (limitsOf (f .limits)) (accessAt n)) answer.Permitted
+stage1 s f n = stage1If s (stage1Of (f .stage1)) (limitsOf (f .limits)) (accessAt n)
 
 abbrev pub stage2 : Setup → Leaf → ℕ → Answer
-stage2 s f n = cond (s .control .stage2) (stage2Answer (stage2Of (f .stage2)) (accessAt n)) answer.Permitted
+stage2 s f n = stage2If s (stage2Of (f .stage2)) (accessAt n)
 
--- Demand 2, for an answer j to access n of leaf f: where nothing is refused, the access is allowed exactly when each stage that is on
--- permits it, otherwise the first failing stage's fault is named; an allowed access carries the combined memory type and
--- shareability
-pub record Demand2 (s : Setup) (f : Leaf) (n : ℕ) (j : Judgement) : Type 0 where
-  pub allowed : (stage1 s f n ≡ answer.Permitted) × (stage2 s f n ≡ answer.Permitted)
-      → j ≡ judgement.Allowed (memoryOf s (stage1Of (f .stage1)) (stage2Of (f .stage2)) (fetches n))
-  pub only : (m : Memory) → j ≡ judgement.Allowed m → (stage1 s f n ≡ answer.Permitted) × (stage2 s f n ≡ answer.Permitted)
-  pub first : (g : Fault) → stage1 s f n ≡ answer.Fault g → j ≡ judgement.Fault g
-  pub second : (g : Fault) → stage1 s f n ≡ answer.Permitted → stage2 s f n ≡ answer.Fault g → j ≡ judgement.Fault g
-
--- an access is allowed
-abbrev pub isAllowed : Judgement → Bool
-isAllowed (judgement.Allowed m) = true
-isAllowed (judgement.Fault g) = false
-isAllowed (judgement.Refused n) = false
+-- the refusals that depend on the access: of the stages that it reaches, then, where it reaches them, 8, 8, 9
+unfoldable pub accessRefusal : Setup → Leaf → ℕ → Check
+accessRefusal s f n =
+    checkThen (refusalOf (stage1 s f n))
+    (whereReached (stage1 s f n)
+    (checkThen (refusalOf (stage2 s f n))
+    (whereReached (stage2 s f n) (checkOf s (stage1Of (f .stage1)) (stage2Of (f .stage2))))))
 
 -- with one level only accesses 0 to 2 are judged
-abbrev pub judgedBit : Setup → Leaf → ℕ → Bool
-judgedBit s f a = cond (s .control .two) (isAllowed (judged s f a)) (ltb a 3 && isAllowed (judged s f a))
+abbrev pub isJudged : Bool → ℕ → Bool
+isJudged two n = leb n (cond two 5 2)
 
--- Demand 2 read at each leaf, for the leaves ls, the output o as it was lent and p as it is left: bit a of byte i is on exactly where the
--- judge's own definition allows access a of leaf i, and later bytes keep their values
-pub record ListDemand (s : Setup) (ls o p : List ℕ) : Type 0 where
-  pub bits : (i a : ℕ) → i < leafCount ls → a < 6 → bit (getD p i 0) a ≡ judgedBit s (leafAt ls i) a
-  pub later : drop (leafCount ls) p ≡ drop (leafCount ls) o
+-- the first refusal that applies to access n, for the bytes b of a setup and c of a leaf, in the paper's order: 13, 1, 2, 3, 4, 5, those of the access
+unfoldable pub firstRefusal : List ℕ → List ℕ → ℕ → Check
+firstRefusal b c n =
+    checkThen (lengthCheck b 52)
+    (checkThen (lengthCheck c 18)
+    (checkThen (setupCheck (setupOf b .control))
+    (checkThen (checkIf (not (isJudged (setupOf b .control .two) n)) 4)
+    (checkThen (leafCheck (leafOf c)) (accessRefusal (setupOf b) (leafOf c) n)))))
 
--- what the user demands of an answer j to access n, for the bytes b of a setup and c of a leaf
+-- nothing is refused: none of 13, 1 to 5 applies, no stage that the access reaches refuses and, where it reaches them, none of 8, 8, 9 applies
+abbrev pub NothingRefused : List ℕ → List ℕ → ℕ → Type 0
+NothingRefused b c n = firstRefusal b c n ≡ check.Passes
+
+-- each stage that is on permits the access; and g is the first failing stage's fault
+abbrev pub Permits : Setup → Leaf → ℕ → Type 0
+Permits s f n = (stage1 s f n ≡ answer.Permitted) × (stage2 s f n ≡ answer.Permitted)
+
+abbrev pub FirstFault : Setup → Leaf → ℕ → Fault → Type 0
+FirstFault s f n g =
+    (stage1 s f n ≡ answer.Fault g) ⊎ ((stage1 s f n ≡ answer.Permitted) × (stage2 s f n ≡ answer.Fault g))
+
+-- Demand 2 of the answer j to access n: where nothing is refused, it is allowed exactly when each stage that is on permits, with the combined memory type
+-- and shareability, and otherwise the first failing stage's fault is named; it is a refusal exactly where something is refused, with the number of
+-- the first that applies.
+pub record Demand2 (b c : List ℕ) (n : ℕ) (j : Judgement) : Type 0 where
+  pub allowed : NothingRefused b c n → Permits (setupOf b) (leafOf c) n
+      → j ≡ judgement.Allowed (memoryOf (setupOf b) (stage1Of (leafOf c .stage1)) (stage2Of (leafOf c .stage2)) (fetches n))
+  pub only-allowed : NothingRefused b c n → (m : Memory) → j ≡ judgement.Allowed m → Permits (setupOf b) (leafOf c) n
+  pub faulted : NothingRefused b c n → (g : Fault) → FirstFault (setupOf b) (leafOf c) n g → j ≡ judgement.Fault g
+  pub refused : (k : ℕ) → firstRefusal b c n ≡ check.Refused k → j ≡ judgement.Refused k
+  pub only-refused : (k : ℕ) → j ≡ judgement.Refused k → firstRefusal b c n ≡ check.Refused k
+
+-- what the user demands of the answer j to access n
 pub record JudgeDemands (b c : List ℕ) (n : ℕ) (j : Judgement) : Type 0 where
   pub one : Demand1 j
-  pub right : (s : Setup) (f : Leaf) → readSetup b ≡ setup.Read s → readLeaf c ≡ leaf.Read f → ((k : ℕ) → j ≡ judgement.Refused k → ⊥)
-      → Demand2 s f n j
+  pub right : Demand2 b c n j
 
--- what the user demands of an answer r to a list, for the bytes b of a setup, the leaves ls, the output o as it was lent and p as it is left
+-- The list. The refusals before its leaves: 13, 1, 2, 3, 11
+abbrev pub startRefusal : List ℕ → List ℕ → List ℕ → Check
+startRefusal b ls o = checkThen (lengthCheck b 52) (listCheck (setupOf b .control) (length ls) (length o))
+
+-- the refusal of a leaf: 5, then that of the lowest judged access that has one
+unfoldable pub leafRefusal : Setup → Leaf → Check
+leafRefusal s f = checkThen (leafCheck f) (firstOf (accessRefusal s f) (judgedAccesses (s .control .two)))
+
+-- access a of a leaf is judged and allowed
+abbrev pub rightsBit : Setup → Leaf → ℕ → Bool
+rightsBit s f a = isJudged (s .control .two) a && (permitted (stage1 s f a) && permitted (stage2 s f a))
+
+-- the numbers that a list is refused with: 1, 2, 3, 5 to 9, 11, 13
+abbrev pub ListNumber : ℕ → Type 0
+ListNumber k = ((1 ≤ k) × (k ≤ 3)) ⊎ (((5 ≤ k) × (k ≤ 9)) ⊎ ((k ≡ 11) ⊎ (k ≡ 13)))
+
+-- Demands 1 and 2 of the answer r to a list and the output p as it is left, for the bytes b of a setup, the leaves ls and the output o as it was lent.
+-- It is done exactly where the setup is accepted, 11 does not apply and no judged access of any leaf is refused: it then answers the leaf count,
+-- bit a of byte i is on exactly where access a of leaf i is judged and allowed, and later bytes keep their values. Otherwise the number and leaf are
+-- those of the first refusal in the paper's order, and no lent byte changes.
 pub record ListDemands (b ls o : List ℕ) (r : Listed) (p : List ℕ) : Type 0 where
-  pub kept : (n i : ℕ) → r ≡ listed.Refused n i → p ≡ o
-  pub right : (s : Setup) (m : ℕ) → readSetup b ≡ setup.Read s → r ≡ listed.Done m → ListDemand s ls o p
+  pub numbers : (k i : ℕ) → r ≡ listed.Refused k i → ListNumber k
+  pub kept : (k i : ℕ) → r ≡ listed.Refused k i → p ≡ o
+  pub size : length p ≡ length o
+  pub before : (k : ℕ) → startRefusal b ls o ≡ check.Refused k → r ≡ listed.Refused k 0
+  pub at-leaf : startRefusal b ls o ≡ check.Passes → (k i : ℕ) → i < leafCount ls
+      → ((j : ℕ) → j < i → leafRefusal (setupOf b) (leafAt ls j) ≡ check.Passes) → leafRefusal (setupOf b) (leafAt ls i) ≡ check.Refused k
+      → r ≡ listed.Refused k i
+  pub done : startRefusal b ls o ≡ check.Passes → ((j : ℕ) → j < leafCount ls → leafRefusal (setupOf b) (leafAt ls j) ≡ check.Passes)
+      → (r ≡ listed.Done (leafCount ls))
+      × ((i a : ℕ) → i < leafCount ls → bit (getD p i 0) a ≡ rightsBit (setupOf b) (leafAt ls i) a)
+      × (drop (leafCount ls) p ≡ drop (leafCount ls) o)

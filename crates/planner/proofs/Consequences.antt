@@ -6,7 +6,7 @@ use mathlib.Core.List.{List, []}
 use mathlib.Core.Logic.{_↔_}
 use Prim.Native.Nat.{ℕ, _<_}
 use native.Mathlib.Omega.{arith}
-use Rattle.records.specs.Access.{accessOf, accessAt}
+use Rattle.records.specs.Access.{accessOf, accessAt, accessNumber}
 use Rattle.records.specs.Bits.{bit}
 use Rattle.records.specs.Descriptor.{stage1Of, stage2Of, limitsOf, slotAt}
 use Rattle.records.specs.declared.access.Level.{Level}
@@ -20,9 +20,9 @@ use Rattle.rights.specs.Checks.{leafCheck}
 use Rattle.rights.specs.Promise.{rangeOf, between, put, allOpen, LevelRange, answerWith}
 use Rattle.records.specs.declared.check.Check.the-variants as check
 use Rattle.rights.specs.declared.answers.Answer.the-variants as answer
-use Rattle.planner.specs.Demand3.{Passes, Separates, Accepted}
+use Rattle.planner.specs.Demands.{Usable, Passes, Separates, Accepted}
 use Rattle.planner.specs.Plan.{cuts, firstUncured, planOf, registerFor, settled}
-use Rattle.planner.specs.Register.{Usable, accessNumber, packFrom}
+use Rattle.planner.specs.Register.{packFrom}
 use Rattle.planner.specs.declared.plan.Plan.the-variants.{Register}
 use Rattle.planner.proofs.Leaves.{not-refused}
 use Rattle.planner.proofs.Theorem.{accepted-settles, demand3}

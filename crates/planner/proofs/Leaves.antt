@@ -18,7 +18,7 @@ use Rattle.rights.specs.Promise.{rangeOf, put, allOpen, LevelRange}
 use Rattle.records.specs.declared.check.Check.{Check}
 use Rattle.records.specs.declared.check.Check.the-variants as check
 use Rattle.records.specs.declared.access.LevelRights.{LevelRights}
-use Rattle.planner.specs.Demand3.{Passes}
+use Rattle.planner.specs.Demands.{Passes}
 use Rattle.planner.specs.Register.{slotNumber}
 use Rattle.records.specs.Values.{ifPasses}
 use Rattle.planner.specs.Plan.{any, common, forbiddenRights, rangePlan, leafPlan, leafPlanOf}

@@ -6,6 +6,7 @@ pub mod Promise
 pub mod Leaves
 pub mod StartLaws
 pub mod Theorem
+pub mod Demands
 pub mod Consequences
 pub mod Bounds
 pub mod MaskLaws

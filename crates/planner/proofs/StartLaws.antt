@@ -15,7 +15,7 @@ use Rattle.records.specs.declared.check.Check.{Check}
 use Rattle.records.specs.declared.check.Check.the-variants as check
 use Rattle.rights.specs.declared.checks.LevelCheck.{LevelCheck}
 use Rattle.rights.specs.declared.checks.LevelCheck.the-variants as level
-use Rattle.planner.specs.Demand3.{Accepted}
+use Rattle.planner.specs.Demands.{Accepted}
 use Rattle.records.specs.Values.{ifPasses}
 use Rattle.planner.specs.Plan.{startLevel, startOf}
 use Rattle.planner.specs.declared.plan.Start.{Start}

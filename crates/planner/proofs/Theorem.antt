@@ -11,9 +11,9 @@ use native.Mathlib.Omega.{arith}
 use lib.Dec.{eqb, ltb}
 use lib.ListN.{length, getD, replicate, getD-replicate, length-take, length-drop}
 use borrow.Author.Tests.{eqb-true, eq-eqb, ltb-true, ltb-false}
-use Rattle.records.specs.Access.{hasRight}
+use Rattle.records.specs.Access.{hasRight, accessNumber}
 use Rattle.records.specs.Bits.{bit, nibble}
-use Rattle.records.specs.Leaf.{leafOf, leafSlice, leafAt}
+use Rattle.records.specs.Leaf.{leafSlice, leafAt}
 use Rattle.records.specs.Descriptor.{stage1Of, stage2Of, limitsOf}
 use Rattle.records.specs.declared.access.Level.{Level}
 use Rattle.records.specs.declared.access.Right.{Right}
@@ -21,9 +21,9 @@ use Rattle.records.specs.declared.access.Right.the-variants.{Read, Write, Execu
 use Rattle.records.specs.declared.setup.Setup.{Setup}
 use Rattle.rights.specs.Promise.{allowedWith}
 use Rattle.records.specs.declared.access.LevelRights.{LevelRights}
-use Rattle.planner.specs.Register.{Usable, slotBit, accessNumber, packFrom}
+use Rattle.planner.specs.Register.{slotBit, packFrom}
 use Rattle.planner.specs.Plan.{forbiddenRights, common, any, plansOf, orRefused, uncured, refusedFrom, firstUncured, cuts, registerFor, settled, planLeaves, planOf}
-use Rattle.planner.specs.Demand3.{Passes, Allowed, Forbids, Cures, Separates, Largest, FirstUncured, Demand3, Accepted, Demanded}
+use Rattle.planner.specs.Demands.{Usable, Passes, Allowed, Forbids, Cures, Separates, Largest, FirstUncured, Demand3, Accepted, Demanded}
 use Rattle.planner.specs.declared.plan.Plan.{Plan}
 use Rattle.planner.specs.declared.plan.Plan.the-variants.{Register, Refused}
 use Rattle.planner.specs.declared.plan.LeafPlan.{LeafPlan}
@@ -141,12 +141,13 @@ module _ (s : Setup) (l : Level) (ls : List ℕ) where
     high = λ i lo hi. nought-slot i;
   }
 
-  module _ (passes : (j : ℕ) → j < n → Passes s l (leafOf (leafSlice ls j))) where
-    whole-leaf : (j : ℕ) → j < n → length (leafSlice ls j) ≡ 18
-    whole-leaf j h = simp (length-take, length-drop) (omega arith)
+  -- a leaf of the list that passes has its range and plan
+  pub ranged-at : (j : ℕ) → j < n → Passes s l (leafAt ls j) → Ranged s l (leafSlice ls j)
+  ranged-at j h p = ranged s l (leafSlice ls j) (simp (length-take, length-drop) (omega arith)) p
 
+  module _ (passes : (j : ℕ) → j < n → Passes s l (leafAt ls j)) where
     R : (j : ℕ) → j < n → Ranged s l (leafSlice ls j)
-    R j h = ranged s l (leafSlice ls j) (whole-leaf j h) (passes j h)
+    R j h = ranged-at j h (passes j h)
 
     place-low : (j : ℕ) (h : j < n) → R j h .place < 8
     place-low j h = subst Low (R j h .plan) (lows j) .0

@@ -1,4 +1,4 @@
 pub mod Register
 pub mod Plan
-pub mod Demand3
+pub mod Demands
 pub mod Mirror

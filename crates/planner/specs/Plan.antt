@@ -5,12 +5,12 @@ use mathlib.Core.List.{List}
 use mathlib.Core.Bool.{Bool, false, cond, _&&_, _||_}
 use lib.Dec.{ltb}
 use lib.ListN.{length, getD, set, replicate}
-use Rattle.records.specs.Access.{three}
+use Rattle.records.specs.Access.{three, accessNumber}
 use Rattle.records.specs.Bits.{bit}
 use Rattle.records.specs.Descriptor.{stage1Of, stage2Of, limitsOf}
 use Rattle.records.specs.Leaf.{readLeaf, leafCount, leafSlice, wholeLeaves}
 use Rattle.records.specs.Setup.{bitOf, readSetup}
-use Rattle.records.specs.Values.{ifPasses}
+use Rattle.records.specs.Values.{Values, refusal, withRegister, ifPasses}
 use Rattle.records.specs.declared.access.Level.{Level}
 use Rattle.records.specs.declared.access.LevelRights.{LevelRights}
 use Rattle.records.specs.declared.access.Right.the-variants.{Read, Write, Execute}
@@ -24,7 +24,7 @@ use Rattle.rights.specs.Checks.{setupCheck, levelCheck, leafCheck}
 use Rattle.rights.specs.Promise.{LevelRange, Range, NoRange, rangeOf}
 use Rattle.rights.specs.declared.checks.LevelCheck.{LevelCheck}
 use Rattle.rights.specs.declared.checks.LevelCheck.the-variants as level
-use Rattle.planner.specs.Register.{accessNumber, slotNumber, cutMask, packFrom}
+use Rattle.planner.specs.Register.{slotNumber, cutMask, packFrom}
 use Rattle.planner.specs.declared.plan.LeafPlan.{LeafPlan}
 use Rattle.planner.specs.declared.plan.LeafPlan.the-variants as plan
 use Rattle.planner.specs.declared.plan.Plan.{Plan}
@@ -32,15 +32,10 @@ use Rattle.planner.specs.declared.plan.Plan.the-variants.{Register, Refu
 use Rattle.planner.specs.declared.plan.Start.{Start}
 use Rattle.planner.specs.declared.plan.Start.the-variants as start
 
--- the paper's number and values of an answer: a refusal's number and leaf, with register 0; a register, with number and leaf 0
-pub record PlanValues : Type 0 where
-  pub number : ℕ
-  pub leaf : ℕ
-  pub register : ℕ
-
-abbrev pub valuesOf : Plan → PlanValues
-valuesOf (Register r) = record { number = 0; leaf = 0; register = r }
-valuesOf (Refused n i) = record { number = n; leaf = i; register = 0 }
+-- the paper's number and values of an answer
+abbrev pub planValues : Plan → Values
+planValues (Register r) = withRegister r
+planValues (Refused n i) = refusal n i
 
 -- 12: stage 1 or that level's overlay is off. 11: the list is not a multiple of 18 bytes or over 2,048 leaves
 abbrev pub startLevel : Control → ℕ → LevelCheck → Start

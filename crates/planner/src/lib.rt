@@ -6,9 +6,9 @@
 ghost use mathlib.Core.Path.{_≡_};
 ghost use Prim.Native.Nat.{_/_};
 ghost use lib.ListN.{length};
-ghost use Rattle.planner.specs.Demand3.{Demanded};
+ghost use Rattle.planner.specs.Demands.{PlannerDemands};
 ghost use Rattle.planner.specs.Mirror.Masks.{plansBy};
-ghost use Rattle.planner.specs.Plan.{inOrder, planOf, valuesOf};
+ghost use Rattle.planner.specs.Plan.{inOrder, planOf};
 use crate::cut::plan_leaf;
 use crate::masks::cut_mask;
 use crate::masks::first_of;
@@ -64,8 +64,7 @@ fn plan_leaves(w: u32, on: bool, base: &[u16; 16], l: Level, leaves: &[u8]) -> P
 // The register of a level (0 privileged, 1 unprivileged) for a setup of 52 bytes and leaves of 18 bytes each.
 pub fn plan_level(setup: &[u8], level: u64, leaves: &[u8]) -> Plan
     ensures { λ r. ⌜ r ≡ planOf (now (setup .entry)) level (now (leaves .entry)) ⌝ }
-    ensures { λ r. ⌜ valuesOf r ≡ valuesOf (planOf (now (setup .entry)) level (now (leaves .entry))) ⌝ }
-    ensures { λ r. ⌜ Demanded (now (setup .entry)) level (now (leaves .entry)) r ⌝ }
+    ensures { λ r. ⌜ PlannerDemands (now (setup .entry)) level (now (leaves .entry)) r ⌝ }
 {
     let WordsRead::Read(q) = records::setup::read_words(setup) else {
         return Plan::Refused {

@@ -1,20 +1,23 @@
--- Laws of a file's leaf fields: one field more, the end, and what a file that is read holds. Cited by the proofs of `file`, and by
--- those who read a file's leaves. Assumes nothing.
+-- Laws of a file's leaf fields: one field more, the end, and what a file that is read holds. Cited by the proofs of `mapfile`,
+-- and by those who read a file's leaves. Assumes nothing.
 use mathlib.Core.Path.{_≡_, refl}
 use mathlib.Core.List.{List, [], _∷_, _++_, append-assoc, append-nil}
-use mathlib.Core.Bool.{Bool, true, false, cond, _&&_}
+use mathlib.Core.Bool.{Bool, true, false, cond}
 use Prim.Native.Nat.{ℕ, zero, suc, _+_, _*_, _-_, _≤_, _<_}
 use native.Mathlib.Nat.{zero-add, add-zero, add-assoc, not-suc-le-zero}
 use native.Mathlib.Omega.{arith}
 use lib.Dec.{leb}
 use lib.ListN.{length, take, drop, length-append, length-take, length-drop, drop-of-length-le}
 use lib.Seq.{take-at, take-length, drop-drop, length-take-le}
-use borrow.Author.Tests.{leb-true}
+use borrow.Author.Tests.{leb-true, le-leb, lt-leb}
 use Rattle.records.proofs.Cases.{both-hold}
-use Rattle.records.specs.Mirror.LeafFields.{delivered}
-use Rattle.records.specs.declared.mapfile.FileRead.the-variants.{Map}
-use Rattle.records.specs.Bytes.{over}
-use Rattle.records.specs.MapFile.{beginsWith, value, rest, Leaves, leaves, illFormed, prepend, leavesOf, fileOf, refuse, resultOf, readFile}
+use Rattle.records.proofs.Copies.{copied}
+use Rattle.records.specs.Mirror.LeafFields.{leavesIn, delivered}
+use Rattle.records.specs.declared.mapfile.FileRead.the-variants.{Map, Refused}
+use Rattle.records.specs.declared.mapfile.FileRead.{FileRead}
+use Rattle.records.specs.declared.mapfile.Fields.{Fields}
+use Rattle.records.specs.declared.mapfile.Fields.the-variants.{Whole, IllFormed}
+use Rattle.records.specs.MapFile.{beginsWith, value, rest, Leaves, leaves, illFormed, prepend, leavesOf, fileOf, FileResult, readFile}
 
 pub prepend-none : (x : Leaves) → prepend 0 [] x ≡ x
 prepend-none (leaves m c) = rw zero-add
@@ -120,26 +123,35 @@ counts (suc m) (x ∷ s) = go (beginsWith 2 18 (x ∷ s)) refl (leavesOf m (rest
 pub counted : (m : ℕ) (s : List ℕ) (n : ℕ) (b : List ℕ) → leavesOf m s ≡ leaves n b → (n ≤ m) × (length b ≡ n * 18)
 counted m s n b e = rw e at (counts m s)
 
--- what reading a file gives, once what it holds is known
-pub read-as : (s a b : List ℕ) (x : Leaves) → beginsWith 1 52 s ≡ true → leavesOf 2048 (rest 52 s) ≡ x → readFile s a b ≡ resultOf s x a b
+-- the answer and what the lent buffer holds afterwards are what a definition says
+abbrev Gives : FileResult → FileRead → List ℕ → Type 0
+Gives w x p = (x ≡ w .answer) × (p ≡ w .leaves)
+
+-- a file that does not begin with a setup
+pub read-other : (s b : List ℕ) → beginsWith 1 52 s ≡ false → Gives (readFile s b) (Refused 13) b
 unfolding readFile fileOf
-read-as s a b x e f = rw (e, f)
+read-other s b e = rw e (refl, refl)
 
-pub read-other : (s a b : List ℕ) → beginsWith 1 52 s ≡ false → readFile s a b ≡ refuse 13 a b
-unfolding readFile fileOf
-read-other s a b e = rw e
+-- a file that begins with one, by the answer r of `leaf_fields`, which leaves v in its buffer
+module _ (s v : List ℕ) (r : Fields) (e : beginsWith 1 52 s ≡ true) (f : leavesOf 2048 (rest 52 s) ≡ leavesIn r v) where
+  pub read-ill : (b : List ℕ) → r ≡ IllFormed → Gives (readFile s b) (Refused 13) b
+  unfolding readFile fileOf
+  read-ill b g = rw (e, f, g) (refl, refl)
 
--- lent buffers that are long enough for the setup and k bytes of leaves
-pub enough : (a b : List ℕ) (k : ℕ) → (leb 52 (length a) && leb k (length b)) ≡ true → (52 ≤ length a) × (k ≤ length b)
-enough a b k e = let h = both-hold _ _ e in (leb-true 52 (length a) (h .0), leb-true k (length b) (h .1))
+  pub read-whole : (b p : List ℕ) (x : FileRead) (n : ℕ) → r ≡ Whole n → Gives (delivered v n b) x p → Gives (readFile s b) x p
+  unfolding readFile fileOf delivered
+  read-whole b p x n g h = rw (e, f, g) h
 
--- what is handed over by whether they are, where v begins with the n leaves
-module _ (s v a b : List ℕ) (n : ℕ) (h : n * 18 ≤ length v) where
-  pub handed : (leb 52 (length a) && leb (n * 18) (length b)) ≡ true
-      → delivered s v n a b ≡ record { answer = Map n; setup = over (value 52 s) a; leaves = over (take (n * 18) v) b }
+  pub few : (n : ℕ) → r ≡ Whole n → n ≤ 2048
+  few n g = counted 2048 (rest 52 s) n (take (n * 18) v) (rw g at f) .0
+
+-- what is handed over where the lent buffer is long enough for the n leaves that v begins with, and where it is not
+module _ (v b : List ℕ) (n : ℕ) (h : n * 18 ≤ length v) where
+  pub handed : n * 18 ≤ length b → (p : List ℕ) → p ≡ take (length (take (n * 18) v)) (take (n * 18) v) ++ drop (length (take (n * 18) v)) b
+      → Gives (delivered v n b) (Map n) p
   unfolding delivered
-  handed e = rw (length-take-le (n * 18) v h, e)
+  handed e p q = rw (q, copied, length-take-le (n * 18) v h, le-leb (n * 18) (length b) e) (refl, refl)
 
-  pub kept : (leb 52 (length a) && leb (n * 18) (length b)) ≡ false → delivered s v n a b ≡ refuse 11 a b
+  pub kept : length b < n * 18 → Gives (delivered v n b) (Refused 11) b
   unfolding delivered
-  kept e = rw (length-take-le (n * 18) v h, e)
+  kept e = rw (length-take-le (n * 18) v h, lt-leb (n * 18) (length b) e) (refl, refl)

@@ -29,6 +29,17 @@ accesses =
 abbrev pub accessAt : ℕ → Access
 accessAt n = getD accesses n (accessOf Privileged Read)
 
+-- the number of a level's first access: 0 pr, 3 ur
+abbrev pub firstAccess : Level → ℕ
+firstAccess Privileged = 0
+firstAccess Unprivileged = 3
+
+-- the number of an access, which its forbidden bit agrees with: read, write, execute
+abbrev pub accessNumber : Level → Right → ℕ
+accessNumber l Read = firstAccess l
+accessNumber l Write = firstAccess l + 1
+accessNumber l Execute = firstAccess l + 2
+
 -- no access has a number above 5
 unfoldable pub readAccess : ℕ → AccessRead
 readAccess n = cond (leb n 5) (read.Read (accessAt n)) read.Unknown

@@ -6,6 +6,7 @@ use mathlib.Core.Bool.{Bool, cond, _&&_}
 use lib.Dec.{eqb, leb}
 use lib.ListN.{length, take, drop}
 use Rattle.records.specs.Bytes.{byteAt, le16, over}
+use Rattle.records.specs.Values.{Values, refusal, withCount}
 use Rattle.records.specs.declared.mapfile.FileRead.{FileRead}
 use Rattle.records.specs.declared.mapfile.FileRead.the-variants.{Map, Refused}
 
@@ -42,21 +43,27 @@ leavesOf (suc m) (x ∷ s) =
 unfoldable pub fileOf : List ℕ → Leaves
 fileOf s = cond (beginsWith 1 52 s) (leavesOf 2048 (rest 52 s)) illFormed
 
--- What reading the file s gives, where buffers that hold a and b are lent for the setup's bytes and the leaves' bytes: the answer,
--- and what they hold afterwards. A buffer too short gives 11, as a list's output does. A refusal changes no lent byte.
+-- the setup's bytes: the value of a first field of 52 bytes, or none where s is too short for one
+unfoldable pub setupIn : List ℕ → List ℕ
+setupIn s = cond (leb 55 (length s)) (value 52 s) []
+
+-- What reading the file s gives, where a buffer that holds b is lent for the leaves' bytes: the answer, and what the buffer holds
+-- afterwards. A buffer too short gives 11, as a list's output does. A refusal changes no lent byte.
 pub record FileResult : Type 0 where
   pub answer : FileRead
-  pub setup : List ℕ
   pub leaves : List ℕ
 
-abbrev pub refuse : ℕ → List ℕ → List ℕ → FileResult
-refuse n a b = record { answer = Refused n; setup = a; leaves = b }
+-- the paper's number and values of the answer
+abbrev pub fileValues : FileRead → Values
+fileValues (Map n) = withCount n
+fileValues (Refused k) = refusal k 0
 
-abbrev pub resultOf : List ℕ → Leaves → List ℕ → List ℕ → FileResult
-resultOf s illFormed a b = refuse 13 a b
-resultOf s (leaves n ls) a b =
-    cond (leb 52 (length a) && leb (length ls) (length b))
-    (record { answer = Map n; setup = over (value 52 s) a; leaves = over ls b }) (refuse 11 a b)
+abbrev pub refuse : ℕ → List ℕ → FileResult
+refuse n b = record { answer = Refused n; leaves = b }
 
-unfoldable pub readFile : List ℕ → List ℕ → List ℕ → FileResult
-readFile s a b = resultOf s (fileOf s) a b
+abbrev pub resultOf : Leaves → List ℕ → FileResult
+resultOf illFormed b = refuse 13 b
+resultOf (leaves n ls) b = cond (leb (length ls) (length b)) (record { answer = Map n; leaves = over ls b }) (refuse 11 b)
+
+unfoldable pub readFile : List ℕ → List ℕ → FileResult
+readFile s b = resultOf (fileOf s) b

@@ -3,7 +3,7 @@
 ghost use mathlib.Core.Path.{_≡_};
 ghost use Prim.Native.Nat.{_*_, _≤_};
 ghost use lib.ListN.{length, drop};
-ghost use Rattle.records.specs.MapFile.{beginsWith, leavesOf, readFile};
+ghost use Rattle.records.specs.MapFile.{beginsWith, leavesOf, readFile, setupIn};
 ghost use Rattle.records.specs.Mirror.LeafFields.{leavesIn, delivered};
 use crate::number::short;
 
@@ -55,35 +55,42 @@ fn leaf_fields(file: &[u8], values: &mut [u8]) -> Fields
     Fields::Whole(n)
 }
 
-// Hands over a file's setup and its `n` leaves, which `values` holds, where both lent buffers are long enough.
-fn deliver(file: &[u8], values: &[u8], n: usize, setup: &mut [u8], leaves: &mut [u8]) -> FileRead
-    requires { ⌜ (55 ≤ length (now file)) × (n ≤ 2048) × (n * 18 ≤ length (now values)) ⌝ }
-    ensures answer { λ r. ⌜ r ≡ delivered (now (file .entry)) (now (values .entry)) n (now (setup .entry)) (now (leaves .entry)) .answer ⌝ }
-    ensures setup { λ r. ⌜ now (setup .exit) ≡ delivered (now (file .entry)) (now (values .entry)) n (now (setup .entry)) (now (leaves .entry)) .setup ⌝ }
-    ensures leaves { λ r. ⌜ now (leaves .exit) ≡ delivered (now (file .entry)) (now (values .entry)) n (now (setup .entry)) (now (leaves .entry)) .leaves ⌝ }
+// Hands over the `n` leaves that `values` begins with, where the lent buffer is long enough.
+fn deliver(values: &[u8], n: usize, leaves: &mut [u8]) -> FileRead
+    requires { ⌜ (n ≤ 2048) × (n * 18 ≤ length (now values)) ⌝ }
+    ensures answer { λ r. ⌜ r ≡ delivered (now (values .entry)) n (now (leaves .entry)) .answer ⌝ }
+    ensures leaves { λ r. ⌜ now (leaves .exit) ≡ delivered (now (values .entry)) n (now (leaves .entry)) .leaves ⌝ }
 {
     let end = n * 18;
-    if (52 <= setup.len()) & (end <= leaves.len()) {
-        bytes::copy(&file[3..55], setup);
-        bytes::copy(&values[..end], leaves);
-        return FileRead::Map(n);
+    if leaves.len() < end {
+        return FileRead::Refused(11);
     }
-    FileRead::Refused(11)
+    bytes::copy(&values[..end], leaves);
+    FileRead::Map(n)
 }
 
-// Reads a map file: its setup's 52 bytes go to the start of `setup` and its leaves' bytes, one leaf after the other, to the
-// start of `leaves`; later bytes are unchanged. One pass over the file.
-pub fn read_file(file: &[u8], setup: &mut [u8], leaves: &mut [u8]) -> FileRead
-    ensures answer { λ r. ⌜ r ≡ readFile (now (file .entry)) (now (setup .entry)) (now (leaves .entry)) .answer ⌝ }
-    ensures setup { λ r. ⌜ now (setup .exit) ≡ readFile (now (file .entry)) (now (setup .entry)) (now (leaves .entry)) .setup ⌝ }
-    ensures leaves { λ r. ⌜ now (leaves .exit) ≡ readFile (now (file .entry)) (now (setup .entry)) (now (leaves .entry)) .leaves ⌝ }
+// Reads a map file: its leaves' bytes, one leaf after the other, go to the start of `leaves`; later bytes are unchanged. One pass
+// over the file.
+pub fn read_file(file: &[u8], leaves: &mut [u8]) -> FileRead
+    ensures answer { λ r. ⌜ r ≡ readFile (now (file .entry)) (now (leaves .entry)) .answer ⌝ }
+    ensures leaves { λ r. ⌜ now (leaves .exit) ≡ readFile (now (file .entry)) (now (leaves .entry)) .leaves ⌝ }
 {
     if begins_with(file, 0, 1, 52) {
         let mut values = [0u8; 36864];
         let Fields::Whole(n) = leaf_fields(file, &mut values) else {
             return FileRead::Refused(13);
         };
-        return deliver(file, &values, n, setup, leaves);
+        return deliver(&values, n, leaves);
     }
     FileRead::Refused(13)
+}
+
+// The setup's bytes, in a file that `read_file` reads as a map: bytes 3 to 54 of any file, and none of one that is shorter.
+pub fn setup_bytes(file: &[u8]) -> &[u8]
+    ensures { λ r. ⌜ now r ≡ setupIn (now (file .entry)) ⌝ }
+{
+    if file.len() < 55 {
+        return &file[..0];
+    }
+    &file[3..55]
 }

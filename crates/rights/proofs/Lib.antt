@@ -9,4 +9,5 @@ pub mod Ranges
 pub mod Stage2Tables
 pub mod Masks
 pub mod Table
+pub mod Refusals
 pub mod PromiseLaws

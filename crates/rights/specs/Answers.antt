@@ -29,6 +29,17 @@ abbrev pub answerOf : Check → Answer
 answerOf check.Passes = Permitted
 answerOf (check.Refused n) = Refused n
 
+-- the refusal of an answer; and what is asked of an access that a step permits
+abbrev pub refusalOf : Answer → Check
+refusalOf Permitted = check.Passes
+refusalOf (Fault f) = check.Passes
+refusalOf (Refused n) = check.Refused n
+
+abbrev pub whereReached : Answer → Check → Check
+whereReached Permitted c = c
+whereReached (Fault f) c = check.Passes
+whereReached (Refused n) c = check.Passes
+
 -- an access is permitted by the answer
 abbrev pub permitted : Answer → Bool
 permitted Permitted = true

@@ -7,18 +7,20 @@ use mathlib.Core.List.{List, [], _∷_}
 use lib.ListN.{getD}
 use Rattle.records.specs.Access.{accessOf, three, levelBits}
 use Rattle.records.specs.Descriptor.{placeOf}
+use Rattle.records.specs.Values.{checkThen}
 use Rattle.records.specs.declared.access.Level.{Level}
 use Rattle.records.specs.declared.access.Level.the-variants.{Privileged, Unprivileged}
 use Rattle.records.specs.declared.access.LevelRights.{LevelRights}
 use Rattle.records.specs.declared.access.Right.{Right}
 use Rattle.records.specs.declared.access.Right.the-variants.{Read, Write, Execute}
+use Rattle.records.specs.declared.check.Check.{Check}
 use Rattle.records.specs.declared.descriptor.Limits.{Limits}
 use Rattle.records.specs.declared.descriptor.Stage1.{Stage1}
 use Rattle.records.specs.declared.descriptor.Stage2.{Stage2}
 use Rattle.records.specs.declared.leaf.Leaf.{Leaf}
 use Rattle.records.specs.declared.setup.LevelRegisters.{LevelRegisters}
 use Rattle.records.specs.declared.setup.Setup.{Setup}
-pub use Rattle.rights.specs.Answers.{permitted}
+pub use Rattle.rights.specs.Answers.{permitted, refusalOf}
 use Rattle.rights.specs.Order.{stagesAnswer, leafAnswer}
 use Rattle.rights.specs.Overlay.{slotRights}
 use Rattle.rights.specs.declared.answers.Answer.{Answer}
@@ -45,6 +47,12 @@ answerWith s l r f x = leafAnswer (put s l r) f (accessOf l x)
 
 abbrev pub allowedWith : Setup → Level → ℕ → Leaf → Right → Bool
 allowedWith s l r f x = permitted (answerWith s l r f x)
+
+-- the refusal that an access of the level meets with r in place of that level's POR, lowest access first
+abbrev pub levelRefusal : Setup → Level → ℕ → Leaf → Check
+levelRefusal s l r f =
+    checkThen (refusalOf (answerWith s l r f Read))
+    (checkThen (refusalOf (answerWith s l r f Write)) (refusalOf (answerWith s l r f Execute)))
 
 -- the rights of a level, or a refusal's number
 pub data LevelAnswer : Type 0 where

@@ -2,40 +2,37 @@
 use Rattle.records.proofs.Cases.{clash, upto, at}
 use mathlib.Core.Path.{_≡_, refl, sym, ap, _∙_}
 use mathlib.Core.Bool.{Bool, true, false, cond, _&&_}
-use mathlib.Core.List.{List, []}
+use mathlib.Core.List.{List}
 use mathlib.Core.Logic.{_⊎_, inl, inr}
 use Prim.Native.Nat.{ℕ, _/_, _%_, _^_, _<_}
 use native.Mathlib.Omega.{arith}
 use lib.Bits.{bitAnd, and-shr, and-mod}
-use lib.Dec.{eqb, ltb}
+use lib.Dec.{eqb}
 use lib.ListN.{length, getD}
 use borrow.Author.Tests.{eqb-true}
-use Rattle.records.specs.Access.{accessAt}
+use Rattle.records.proofs.Extension.{AllPass, FirstAt, decided}
+use Rattle.records.specs.Access.{accessAt, accessNumber}
 use Rattle.records.specs.Bits.{bit}
+use Rattle.records.specs.Leaf.{leafAt, leafCount}
 use Rattle.records.specs.Setup.{setupOf, readSetup}
-use Rattle.records.specs.declared.access.Level.{Level}
-use Rattle.records.specs.declared.access.Level.the-variants.{Privileged, Unprivileged}
-use Rattle.records.specs.declared.access.Right.{Right}
-use Rattle.records.specs.declared.access.Right.the-variants.{Read, Write, Execute}
+use Rattle.records.specs.declared.check.Check.{Check}
+use Rattle.records.specs.declared.check.Check.the-variants as check
 use Rattle.records.specs.declared.leaf.Leaf.{Leaf}
 use Rattle.records.specs.declared.setup.Setup.{Setup}
 use Rattle.records.specs.declared.setup.SetupRead.the-variants as setup
-use Rattle.rights.proofs.Named.{stages-answer}
-use Rattle.rights.specs.Answers.{permitted}
-use Rattle.rights.specs.Order.{leafAnswer, rightsAnswer}
+use Rattle.rights.proofs.OrderLaws.{stages-as}
+use Rattle.rights.specs.Answers.{permitted, follow}
+use Rattle.rights.specs.Order.{leafAnswer}
 use Rattle.rights.specs.Promise.{put}
 use Rattle.rights.specs.declared.answers.Answer.{Answer}
 use Rattle.rights.specs.declared.answers.Answer.the-variants as answer
-use Rattle.judge.proofs.Demands.{list-meets}
-use Rattle.judge.specs.Demands.{isAllowed}
-use Rattle.judge.specs.Judge.{afterRights, judged}
-use Rattle.records.specs.Leaf.{leafAt}
+use Rattle.judge.proofs.ListMet.{list-met}
+use Rattle.judge.specs.Demands.{stage1, stage2, isJudged, startRefusal, leafRefusal, rightsBit, ListDemands}
 use Rattle.judge.specs.List.{listOf}
-use Rattle.judge.specs.declared.answers.Judgement.{Judgement}
+use Rattle.judge.specs.declared.answers.Listed.the-variants.{Done}
 use Rattle.planner.proofs.Consequences.{access-number}
 use Rattle.planner.proofs.Theorem.{demand3}
 use Rattle.planner.specs.Plan.{planOf}
-use Rattle.planner.specs.Register.{accessNumber}
 use Rattle.separation.proofs.InPlace.{put-read}
 use Rattle.separation.specs.Separation.{withPor, Separated}
 
@@ -47,40 +44,46 @@ joined a b k =
     (at 2 (λ (x : ℕ). upto 2 (λ (y : ℕ). eqb (bitAnd x y) 1)) (λ (x : ℕ). upto 2 (λ (y : ℕ). eqb x 1 && eqb y 1)) refl (a / 2 ^ k % 2) (omega arith))
     (b / 2 ^ k % 2) (omega arith))
 
-number-low : (l : Level) (x : Right) → accessNumber l x < 6
-number-low Privileged Read = omega arith
-number-low Privileged Write = omega arith
-number-low Privileged Execute = omega arith
-number-low Unprivileged Read = omega arith
-number-low Unprivileged Write = omega arith
-number-low Unprivileged Execute = omega arith
-
 -- two bits that are not on together
 off : (a b : Bool) → (a ≡ true → b ≡ true → ⊥) → (a && b) ≡ false
 off true true h = absurd (h refl refl)
 off true false h = refl
 off false b h = refl
 
--- a bit of the rights is on where the judge allows the access
-allowed : (two low x : Bool) → cond two x (low && x) ≡ true → x ≡ true
-allowed true low x e = e
-allowed false true x e = e
-allowed false false x e = clash (cc)
+-- an access whose bit is on is permitted by the stages
+both : (x y : Answer) → permitted (follow x y) ≡ (permitted x && permitted y)
+both answer.Permitted y = refl
+both (answer.Fault g) y = refl
+both (answer.Refused n) y = refl
 
--- an access that the judge allows is permitted by the stages
-reached : (x : Answer) (j : Judgement) → isAllowed (afterRights x j) ≡ true → x ≡ answer.Permitted
-reached answer.Permitted j e = refl
-reached (answer.Fault f) j e = clash (cc)
-reached (answer.Refused n) j e = clash (cc)
+allowed : (t x : Bool) → (t && x) ≡ true → x ≡ true
+allowed true x e = e
+allowed false x e = clash (cc)
 
-by-stages : (s : Setup) (f : Leaf) (n : ℕ) → isAllowed (judged s f n) ≡ true → leafAnswer s f (accessAt n) ≡ answer.Permitted
-unfolding judged
-by-stages s f n e = go (stages-answer s f n) (reached (rightsAnswer s f n) _ e)
-  where
-    go : ((k : ℕ) × (rightsAnswer s f n ≡ answer.Refused k)) ⊎ (rightsAnswer s f n ≡ leafAnswer s f (accessAt n))
-        → rightsAnswer s f n ≡ answer.Permitted → leafAnswer s f (accessAt n) ≡ answer.Permitted
-    go (inl (k, q)) p = clash (cc)
-    go (inr q) p = sym q ∙ p
+by-stages : (s : Setup) (f : Leaf) (n : ℕ) → rightsBit s f n ≡ true → permitted (leafAnswer s f (accessAt n)) ≡ true
+by-stages s f n e =
+    ap permitted (stages-as s _ _ _ (accessAt n) (stage1 s f n) refl)
+    ∙ both (stage1 s f n) (stage2 s f n) ∙ allowed (isJudged (s .control .two) n) (permitted (stage1 s f n) && permitted (stage2 s f n)) e
+
+-- a list that is done has a bit for each access of its leaves: its demands leave it no refusal
+module _ (b ls o : List ℕ) (m : ℕ) (d : listOf b ls o .answer ≡ Done m) where
+  abbrev R : ℕ → Check
+  R j = leafRefusal (setupOf b) (leafAt ls j)
+
+  demands : ListDemands b ls o (listOf b ls o .answer) (listOf b ls o .out)
+  demands = list-met b ls o (listOf b ls o .answer) (listOf b ls o .out) (refl, refl)
+
+  done-bits : (i a : ℕ) → i < leafCount ls → bit (getD (listOf b ls o .out) i 0) a ≡ rightsBit (setupOf b) (leafAt ls i) a
+  done-bits i a h = start (startRefusal b ls o) refl
+    where
+      leaves : startRefusal b ls o ≡ check.Passes → AllPass R (leafCount ls) ⊎ ((k : ℕ) × (j : ℕ) × FirstAt R (leafCount ls) k j)
+          → bit (getD (listOf b ls o .out) i 0) a ≡ rightsBit (setupOf b) (leafAt ls i) a
+      leaves e (inl p) = demands .done e p .1 i a h
+      leaves e (inr (k, j, f)) = let z = demands .at-leaf e k j (f .within) (f .before) (f .refuses) in clash (cc)
+
+      start : (x : Check) → startRefusal b ls o ≡ x → bit (getD (listOf b ls o .out) i 0) a ≡ rightsBit (setupOf b) (leafAt ls i) a
+      start check.Passes e = leaves e (decided R (leafCount ls))
+      start (check.Refused k) e = let z = demands .before k e in clash (cc)
 
 -- bytes that are read as a setup are 52, and the setup is theirs
 is-read : (b : List ℕ) (s : Setup) → readSetup b ≡ setup.Read s → (length b ≡ 52) × (s ≡ setupOf b)
@@ -98,11 +101,7 @@ separated b lv ls o s l r m A e d i x h =
     let q : readSetup (withPor b l r) ≡ setup.Read (put s l r) = rw (w .1) (put-read b l r (w .0) (g .usable .word)) in
     let n = accessNumber l x in
     let p = listOf (withPor b l r) ls o .out in
-    let bits = list-meets (withPor b l r) ls o (put s l r) m q d .bits i n h (number-low l x) in
+    let bits = rw (sym (is-read (withPor b l r) (put s l r) q .1)) at (done-bits (withPor b l r) ls o m d i n h) in
     joined (getD p i 0) (leafAt ls i .forbidden) n
     ∙ off (bit (getD p i 0) n) (bit (leafAt ls i .forbidden) n)
-    (λ on forbids.
-    g .separates i h x forbids
-    (ap permitted
-    (rw (access-number l x) at
-    (by-stages (put s l r) (leafAt ls i) n (allowed (s .control .two) (ltb n 3) (isAllowed (judged (put s l r) (leafAt ls i) n)) (sym bits ∙ on))))))
+    (λ on forbids. g .separates i h x forbids (rw (access-number l x) at (by-stages (put s l r) (leafAt ls i) n (sym bits ∙ on))))

@@ -6,6 +6,7 @@ use mathlib.Core.Bool.{false}
 use mathlib.Core.List.{List, _++_}
 use lib.Bits.{bitAnd}
 use lib.ListN.{length, getD, take, drop}
+use Rattle.records.specs.Access.{accessNumber}
 use Rattle.records.specs.Bits.{bit}
 use Rattle.records.specs.declared.access.Level.{Level}
 use Rattle.records.specs.declared.access.Level.the-variants.{Privileged, Unprivileged}
@@ -15,9 +16,8 @@ use Rattle.judge.specs.Cases.{bytesOf}
 use Rattle.records.specs.Leaf.{leafAt}
 use Rattle.judge.specs.List.{listOf}
 use Rattle.judge.specs.declared.answers.Listed.the-variants.{Done}
-use Rattle.planner.specs.Demand3.{Accepted}
+use Rattle.planner.specs.Demands.{Accepted}
 use Rattle.planner.specs.Plan.{planOf}
-use Rattle.planner.specs.Register.{accessNumber}
 use Rattle.planner.specs.declared.plan.Plan.the-variants.{Register}
 
 -- where a setup of 52 bytes holds a level's POR

@@ -3,7 +3,7 @@ ghost use mathlib.Core.Path.{_≡_};
 ghost use Prim.Native.Nat.{_+_, _*_, _^_};
 ghost use Rattle.records.specs.Bits.{field};
 ghost use Rattle.judge.specs.Answers.{judgementValues, kindNumber};
-ghost use Rattle.sonsiplex.specs.Packing.{packJudgement, judgementFields, numbers, packNumbers, numberFields};
+ghost use Rattle.sonsiplex.specs.Packing.{packJudgement, judgementFields, packNumbers};
 use judge::answers::Judgement;
 use records::number::wide;
 use rights::answers::Kind;
@@ -33,7 +33,7 @@ fn pack_values(number: u8, stage: u8, kind: u8, byte: u8, sh: u8) -> u64
 
 // A judgement.
 pub(crate) fn pack_judgement(j: Judgement) -> u64
-    ensures packed { λ r. ⌜ r ≡ packJudgement j ⌝ }
+    ensures packed { λ r. ⌜ r ≡ packJudgement (judgementValues j) ⌝ }
     ensures fields { λ r. ⌜ judgementFields r ≡ judgementValues j ⌝ }
 {
     match j {
@@ -48,8 +48,8 @@ pub(crate) fn pack_judgement(j: Judgement) -> u64
 
 // What the list and the planner answer: a refusal's number, a leaf's index, and a value.
 pub(crate) fn pack_numbers(number: u8, leaf: u16, value: u32) -> u64
-    ensures packed { λ r. ⌜ r ≡ packNumbers (numbers number leaf value) ⌝ }
-    ensures fields { λ r. ⌜ numberFields r ≡ numbers number leaf value ⌝ }
+    ensures packed { λ r. ⌜ r ≡ packNumbers number leaf value ⌝ }
+    ensures fields { λ r. ⌜ (field r 0 8 ≡ number) × (field r 16 16 ≡ leaf) × (field r 32 32 ≡ value) ⌝ }
 {
     wide(number) + 0x10000 * leaf as u64 + 0x100000000 * value as u64
 }

@@ -1,17 +1,16 @@
 -- The text of a file by what was read of it, and of a map by what its list answered. Assumes nothing.
 use Rattle.records.proofs.Cases.{clash}
 use mathlib.Core.Path.{_≡_, refl, sym, ap, _∙_}
-use mathlib.Core.Bool.{Bool, true, false, cond, _&&_}
-use mathlib.Core.List.{List, [], append-nil}
+use mathlib.Core.Bool.{Bool, true, false}
+use mathlib.Core.List.{List}
 use Prim.Native.Nat.{ℕ, _*_, _≤_, _<_}
 use native.Mathlib.Nat.{zero-add}
 use native.Mathlib.Omega.{arith}
-use lib.Dec.{leb}
-use lib.ListN.{length, take, drop, replicate, length-append, length-replicate, drop-of-length-le}
+use lib.ListN.{length, take, drop, replicate, length-append, length-replicate}
 use lib.Seq.{take-at, length-take-le}
 use borrow.Author.Tests.{le-leb, lt-ltb, le-ltb}
-use Rattle.records.proofs.LeafFields.{whole, value-length, counted}
-use Rattle.records.specs.MapFile.{beginsWith, value, rest, Leaves, leaves, illFormed, leavesOf, fileOf, resultOf, readFile}
+use Rattle.records.proofs.LeafFields.{whole, counted}
+use Rattle.records.specs.MapFile.{beginsWith, rest, Leaves, leaves, illFormed, fileOf, setupIn, resultOf, readFile}
 use Rattle.records.specs.Bytes.{over}
 use Rattle.records.specs.declared.mapfile.FileRead.{FileRead}
 use Rattle.records.specs.declared.mapfile.FileRead.the-variants as file
@@ -34,80 +33,53 @@ module _ (b ls : List ℕ) (n : ℕ) (x : Listed) where
   unfolding mapText
   refused k i e g = rw (← e, g)
 
--- a file that is read as a map of n leaves
-pub record Read (s : List ℕ) (n : ℕ) (setup ls : List ℕ) : Type 0 where
+-- a file that is read as a map has a first field of 52 bytes and at most 2,048 leaf fields, of 18 bytes each
+file-counted : (s : List ℕ) (n : ℕ) (ls : List ℕ) → fileOf s ≡ leaves n ls → (55 ≤ length s) × ((n ≤ 2048) × (length ls ≡ n * 18))
+unfolding fileOf
+file-counted s n ls e = go (beginsWith 1 52 s) refl
+  where
+    go : (t : Bool) → beginsWith 1 52 s ≡ t → (55 ≤ length s) × ((n ≤ 2048) × (length ls ≡ n * 18))
+    go true q = (whole 1 52 s q, counted 2048 (rest 52 s) n ls (rw q at e))
+    go false q = let f : illFormed ≡ leaves n ls = rw q at e in clash (cc)
+
+-- a file that is read as a map of n leaves, which ls begins with
+pub record Read (s : List ℕ) (n : ℕ) (ls : List ℕ) : Type 0 where
   pub few : n ≤ 2048
   pub long : n * 18 ≤ length ls
-  pub text : textOf s ≡ mapText setup (take (n * 18) ls) n
+  pub text : textOf s ≡ mapText (setupIn s) (take (n * 18) ls) n
 
-pub data FileText (s : List ℕ) : FileRead → List ℕ → List ℕ → Type 0 where
-  map : (n : ℕ) (a ls : List ℕ) → Read s n a ls → FileText s (file.Map n) a ls
-  ill-formed : (a ls : List ℕ) → textOf s ≡ refusalLine 13 0 → FileText s (file.Refused 13) a ls
+-- what the answer of `read_file`, which leaves ls in its buffer, tells of the text
+abbrev Told : List ℕ → FileRead → List ℕ → Type 0
+Told s (file.Map n) ls = Read s n ls
+Told s (file.Refused k) ls = textOf s ≡ refusalLine k 0
 
--- the buffers a and z that are lent for them are long enough
-module _ (s a z : List ℕ) (ha : length a ≡ 52) (hz : 36864 ≤ length z) where
-  map-text : beginsWith 1 52 s ≡ true → (n : ℕ) (ls : List ℕ) → leavesOf 2048 (rest 52 s) ≡ leaves n ls
-      → FileText s (file.Map n) (over (value 52 s) a) (over ls z)
-  unfolding textOf fileOf
-  map-text e n ls f =
-      let c = counted 2048 (rest 52 s) n ls f in
-      let v = value-length 52 s (whole 1 52 s e) in
-      let d : drop (length (value 52 s)) a ≡ [] = drop-of-length-le a {i = length (value 52 s)} (omega arith) in
-      let b : over (value 52 s) a ≡ value 52 s = rw (d, append-nil) in
-      let t : take (n * 18) (over ls z) ≡ ls = take-at ls _ (n * 18) (c .1) in
-      map n (over (value 52 s) a) (over ls z) (record {
-        few = c .0;
-        long = omega (arith, c .1, length-append ls (drop (length ls) z));
-        text = rw (e, f, b, t);
-      })
+-- the buffer z that is lent is long enough
+holds : (s z : List ℕ) → 36864 ≤ length z → (x : Leaves) → fileOf s ≡ x → Told s (resultOf x z .answer) (resultOf x z .leaves)
+unfolding textOf setupIn
+holds s z h illFormed e = rw e
+holds s z h (leaves n ls) e =
+    let c = file-counted s n ls e in
+    rw (le-leb (length ls) (length z) (omega (arith, c .1 .0, c .1 .1)))
+    (record {
+      few = c .1 .0;
+      long = omega (arith, c .1 .1, length-append ls (drop (length ls) z));
+      text = rw (e, le-leb 55 (length s) (c .0), take-at ls _ (n * 18) (c .1 .1));
+    })
 
-  fits : (n : ℕ) (ls : List ℕ) → leavesOf 2048 (rest 52 s) ≡ leaves n ls → (leb 52 (length a) && leb (length ls) (length z)) ≡ true
-  fits n ls f =
-      let c = counted 2048 (rest 52 s) n ls f in
-      rw (ha, le-leb (length ls) (length z) (omega (arith, c .0, c .1)))
-
-  leaves-text : beginsWith 1 52 s ≡ true → (x : Leaves) → leavesOf 2048 (rest 52 s) ≡ x
-      → FileText s (resultOf s x a z .answer) (resultOf s x a z .setup) (resultOf s x a z .leaves)
-  unfolding textOf fileOf
-  leaves-text e illFormed f = ill-formed a z (rw (e, f))
-  leaves-text e (leaves n ls) f = rw (fits n ls f) (map-text e n ls f)
-
-  -- what was read of a file tells its text
-  pub read-text : FileText s (readFile s a z .answer) (readFile s a z .setup) (readFile s a z .leaves)
-  unfolding readFile textOf fileOf
-  read-text = go (beginsWith 1 52 s) refl
-    where
-      go : (t : Bool) → beginsWith 1 52 s ≡ t
-          → FileText s (resultOf s (cond t (leavesOf 2048 (rest 52 s)) illFormed) a z .answer)
-          (resultOf s (cond t (leavesOf 2048 (rest 52 s)) illFormed) a z .setup) (resultOf s (cond t (leavesOf 2048 (rest 52 s)) illFormed) a z .leaves)
-      go true e = leaves-text e (leavesOf 2048 (rest 52 s)) refl
-      go false e = ill-formed a z (rw e)
-
-as-map : (s : List ℕ) (x : FileRead) (n : ℕ) (a ls : List ℕ) → FileText s x a ls → x ≡ file.Map n → Read s n a ls
-as-map s _ n _ _ (map m a ls r) e = let f : m ≡ n = cc in rw (← f) r
-as-map s _ n _ _ (ill-formed a ls t) e = clash (cc)
-
-as-refused : (s : List ℕ) (x : FileRead) (k : ℕ) (a ls : List ℕ) → FileText s x a ls → x ≡ file.Refused k → textOf s ≡ refusalLine k 0
-as-refused s _ k _ _ (map m a ls r) e = clash (cc)
-as-refused s _ k _ _ (ill-formed a ls t) e = let f : 13 ≡ k = cc in rw (← f) t
-
--- the answer x of `read_file`, which leaves b and ls in the buffers
-module _ (s b ls : List ℕ) (x : FileRead) where
+-- the answer x of `read_file`
+module _ (s ls : List ℕ) (x : FileRead) where
   abbrev Answered : Type 0
-  Answered =
-      (x ≡ readFile s (replicate 52 0) (replicate 36864 0) .answer)
-      × ((b ≡ readFile s (replicate 52 0) (replicate 36864 0) .setup) × (ls ≡ readFile s (replicate 52 0) (replicate 36864 0) .leaves))
+  Answered = (x ≡ readFile s (replicate 36864 0) .answer) × (ls ≡ readFile s (replicate 36864 0) .leaves)
 
-  told : Answered → FileText s x b ls
-  told e =
-      rw (e .0, e .1 .0, e .1 .1)
-      (read-text s (replicate 52 0) (replicate 36864 0) (length-replicate {A = ℕ} 52 0) (omega (arith, length-replicate {A = ℕ} 36864 0)))
+  told : Answered → Told s x ls
+  unfolding readFile
+  told e = rw (e .0, e .1) (holds s (replicate 36864 0) (omega (arith, length-replicate {A = ℕ} 36864 0)) (fileOf s) refl)
 
-  pub of-map : (n : ℕ) → Answered → x ≡ file.Map n → Read s n b ls
-  of-map n e f = as-map s x n b ls (told e) f
+  pub of-map : (n : ℕ) → Answered → x ≡ file.Map n → Read s n ls
+  of-map n e f = rw f at (told e)
 
   pub of-refused : (k : ℕ) → Answered → x ≡ file.Refused k → textOf s ≡ refusalLine k 0
-  of-refused k e f = as-refused s x k b ls (told e) f
+  of-refused k e f = rw f at (told e)
 
 -- nothing before the text
 pub whole-text : (o t p : List ℕ) (r : ℕ) → Put o 0 t p r → (r ≡ length t) × (p ≡ over t o)

@@ -110,12 +110,11 @@ pub fn write_listing(file: &[u8], out: &mut [u8]) -> usize
     if out.len() < 36864 {
         return 0;
     }
-    let mut setup = [0u8; 52];
     let mut leaves = [0u8; 36864];
-    match records::mapfile::read_file(file, &mut setup, &mut leaves) {
+    match records::mapfile::read_file(file, &mut leaves) {
         FileRead::Map(n) => {
             let end = n * 18;
-            put_list(out, &setup, &leaves[..end], n)
+            put_list(out, records::mapfile::setup_bytes(file), &leaves[..end], n)
         }
         FileRead::Refused(k) => put_refusal(out, 0, k, 0),
     }

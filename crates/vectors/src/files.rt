@@ -22,26 +22,26 @@ fn changed(s: &[u8]) -> u64 {
     n as u64
 }
 
-// Reads a map file, with `room` bytes of `leaves` lent for the leaves, and prints the answer.
-fn print_read(file: &[u8], setup: &mut [u8], leaves: &mut [u8], room: usize) {
+// Reads a map file, with `room` bytes of `leaves` lent for the leaves, and prints the answer and how many bytes the setup has; 0 for a
+// refused file.
+fn print_read(file: &[u8], leaves: &mut [u8], room: usize) {
     if leaves.len() < room {
         return;
     }
-    match records::mapfile::read_file(file, setup, &mut leaves[0..room]) {
-        FileRead::Map(n) => form(b" map #", &[n as u64]),
-        FileRead::Refused(k) => form(b" refused #", &[k as u64]),
+    match records::mapfile::read_file(file, &mut leaves[0..room]) {
+        FileRead::Map(n) => {
+            let setup = records::mapfile::setup_bytes(file);
+            form(b" map # setup bytes #", &[n as u64, setup.len() as u64]);
+        }
+        FileRead::Refused(k) => form(b" refused # setup bytes 0", &[k as u64]),
     }
 }
 
-// The same with fresh buffers, and prints how many lent bytes changed.
+// The same with a fresh buffer, and prints how many of its bytes changed.
 fn print_changed(file: &[u8], room: usize) {
-    let mut setup = [170u8; 60];
     let mut leaves = [170u8; 36866];
-    print_read(file, &mut setup, &mut leaves, room);
-    form(
-        b" setup bytes changed # leaf bytes changed #\n",
-        &[changed(&setup), changed(&leaves)],
-    );
+    print_read(file, &mut leaves, room);
+    form(b" leaf bytes changed #\n", &[changed(&leaves)]);
 }
 
 // The example's setup and two leaves, each after the header of its field.

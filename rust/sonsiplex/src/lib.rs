@@ -1,10 +1,14 @@
-//! Safe wrapper of the proved map judge, list and planner.
+//! Safe wrapper of the map judge, list and planner for the loader.
 //!
 //! The judge reads a setup, a leaf and an access, and says whether the access is allowed, and with
 //! which memory type and shareability, or which fault it takes. The list gives the rights of many
 //! leaves. The planner gives the overlay register of a level that stops every forbidden access
 //! and no more. All three are static functions without state: they allocate nothing, and a
 //! refused call changes no byte of a lent buffer.
+//!
+//! Proved is the contract of the three exported functions: how they pack their answers, and that
+//! these meet what document 01 demands. The C boundary and this crate, with its unpacking, are not
+//! proved but tested.
 //!
 //! # The loader's duties
 //!

@@ -1,4 +1,5 @@
-//! The library's functions with their answers as it packs them, and the unpacking.
+//! The library's functions with their answers as it packs them, and the unpacking, which reads the
+//! fields of `crates/sonsiplex/specs/Packing.antt`. A number that is not 0 is a refusal.
 //!
 //! Bits that the packing keeps for later (47:40 of the judge for a cause, 48 and 49 for two marks
 //! of memory) are not read here.
@@ -99,10 +100,10 @@ pub fn unpack_judge(word: u64) -> Result<Judgement, Refusal> {
     }))
 }
 
-/// The list's answer. Bits 7:0 number, 31:16 leaf, 47:32 leaf count.
+/// The list's answer. Bits 7:0 number, 31:16 leaf, 63:32 leaf count.
 pub fn unpack_list(word: u64) -> Result<usize, Refusal> {
     refusal_of_list(word)?;
-    Ok((word >> 32 & 0xFFFF) as usize)
+    Ok((word >> 32) as usize)
 }
 
 /// The planner's answer. Bits 7:0 number, 31:16 leaf, 63:32 slots 0 to 7 of the register.
@@ -154,7 +155,8 @@ fn unpack_shareability(value: u8) -> Option<Shareability> {
     }
 }
 
-/// The library is proved to answer within the packing, so only another archive reaches this.
+/// The exported functions are proved to answer within the packing, so a word outside it is not
+/// theirs.
 #[cold]
 fn outside(word: u64) -> ! {
     panic!("answer {word:#018x} is outside the packing: libsonsiplex.a does not fit this crate")
@@ -205,6 +207,7 @@ mod tests {
     #[test]
     fn list_and_plan_words() {
         assert_eq!(unpack_list(0x0800_0000_0000), Ok(2048));
+        assert_eq!(unpack_list(0x0001_0000_0000_0000), Ok(0x1_0000)); // all of bits 63:32
         assert_eq!(unpack_plan(0x7777_7773_0000_0000), Ok(0x7777_7773));
         let refused = unpack_plan(0x0001_000A).unwrap_err();
         assert_eq!(

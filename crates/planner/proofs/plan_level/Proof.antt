@@ -1,4 +1,4 @@
--- `plan_level` meets its contract: its answer is the checks' refusal or what the leaves give, and demand 3 holds of it. Assumes nothing.
+-- `plan_level` meets its contract: its answer is the checks' refusal or what the leaves give, and the demands hold of it. Assumes nothing.
 use mathlib.Core.Path.{_≡_, refl, sym, ap, _∙_}
 use mathlib.Core.List.{List}
 use Prim.Native.Nat.{ℕ}
@@ -9,26 +9,26 @@ use Rattle.records.specs.declared.setup.Control.{Control}
 use Rattle.records.specs.declared.setup.Words.{Words}
 use Rattle.records.specs.declared.setup.WordsRead.{WordsRead}
 use Rattle.records.specs.declared.setup.WordsRead.the-variants as words
-use Rattle.planner.specs.Demand3.{Demanded}
-use Rattle.planner.specs.Plan.{startOf, planFrom, planSetup, planOf, valuesOf}
+use Rattle.planner.specs.Demands.{PlannerDemands}
+use Rattle.planner.specs.Plan.{startOf, planFrom, planSetup, planOf}
 use Rattle.planner.specs.declared.plan.Plan.{Plan}
 use Rattle.planner.specs.declared.plan.Start.{Start}
 use Rattle.planner.proofs.MaskLaws.{leaves-by}
-use Rattle.planner.proofs.Theorem.{demand3}
+use Rattle.planner.proofs.Demands.{plan-met}
 use borrow.Author.Needs.{needs}
 use Rattle.planner.proofs.plan_level.Statement.{statement}
 use Rattle.planner.proofs.plan_level.Tie as tie
 
 -- what is demanded of an answer
 abbrev Met : List ℕ → ℕ → List ℕ → Plan → Type 0
-Met bytes lv ls p = (p ≡ planOf bytes lv ls) × ((valuesOf p ≡ valuesOf (planOf bytes lv ls)) × Demanded bytes lv ls p)
+Met bytes lv ls p = (p ≡ planOf bytes lv ls) × PlannerDemands bytes lv ls p
 
--- an answer that is the plan meets demand 3
+-- an answer that is the plan meets the demands
 met : (bytes : List ℕ) (lv : ℕ) (ls : List ℕ) (x : WordsRead) (p : Plan) → readWords bytes ≡ x → p ≡ planSetup lv ls (asSetup x) → Met bytes lv ls p
 unfolding planOf
 met bytes lv ls x p e q =
     let r : p ≡ planOf bytes lv ls = q ∙ ap (planSetup lv ls) (sym (setup-read bytes x e)) in
-    (r, (ap valuesOf r, demand3 bytes lv ls p r))
+    (r, plan-met bytes lv ls p r)
 
 -- the answer where the words are read, by what the checks before the leaves give
 begun : (bytes : List ℕ) (lv : ℕ) (ls : List ℕ) (q : Words) (k : Control) (x : Start) (p : Plan) → readWords bytes ≡ words.Read q

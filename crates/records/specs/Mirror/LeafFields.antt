@@ -11,6 +11,6 @@ abbrev pub leavesIn : Fields → List ℕ → Leaves
 leavesIn (Whole n) v = leaves n (take (n * 18) v)
 leavesIn IllFormed v = illFormed
 
--- what reading the file s gives, whose n leaves the buffer's contents v begin with
-unfoldable pub delivered : List ℕ → List ℕ → ℕ → List ℕ → List ℕ → FileResult
-delivered s v n a b = resultOf s (leaves n (take (n * 18) v)) a b
+-- what reading a file gives whose n leaves the buffer's contents v begin with
+unfoldable pub delivered : List ℕ → ℕ → List ℕ → FileResult
+delivered v n b = resultOf (leaves n (take (n * 18) v)) b

@@ -1,8 +1,6 @@
--- `sonsiplex_list` packs the list's answer. Assumes nothing.
-use mathlib.Core.Path.{sym, ap, _∙_}
+-- `sonsiplex_list` packs the list's answer, which meets the demands. Assumes nothing.
 use native.Mathlib.Omega.{arith}
-use Rattle.sonsiplex.specs.Packing.{listNumbers}
-use Rattle.sonsiplex.proofs.Exported.{packed, list-fit}
+use Rattle.sonsiplex.proofs.Exported.{list-fit, list-exported}
 use borrow.Author.Needs.{needs}
 use Rattle.sonsiplex.proofs.sonsiplex_list.Statement.{statement}
 use Rattle.sonsiplex.proofs.sonsiplex_list.Tie as tie
@@ -32,13 +30,15 @@ same-length : tie.Need-same-length
 same-length c = search needs
 
 returns : tie.Need-returns
-returns c = let m = packed _ _ _ (ap listNumbers (sym (c .before .before .before .before .before .before .list-rights .ensures .0) ∙ c .before .before .n .given .1)) (c .pack-numbers .ensures) in (m .0, (m .1, c .before .before .before .before .before .before .list-rights .ensures .1 .0))
+returns c =
+    list-exported _ _ _ _ _ _ _ (c .before .before .n .given .1) (c .before .before .before .before .before .before .list-rights .ensures) (c .pack-numbers .ensures)
 
 same-length-2 : tie.Need-same-length-2
 same-length-2 c = search needs
 
 returns-2 : tie.Need-returns-2
-returns-2 c = let m = packed _ _ _ (ap listNumbers (sym (c .before .before .before .before .before .before .list-rights .ensures .0) ∙ c .before .before .number .given .1)) (c .pack-numbers2 .ensures) in (m .0, (m .1, c .before .before .before .before .before .before .list-rights .ensures .1 .0))
+returns-2 c =
+    list-exported _ _ _ _ _ _ _ (c .before .before .number .given .1) (c .before .before .before .before .before .before .list-rights .ensures) (c .pack-numbers2 .ensures)
 
 pub sonsiplex-list-spec : {M : Type 1} → statement M
 sonsiplex-list-spec =

@@ -1,8 +1,6 @@
--- `sonsiplex_plan` packs the planner's answer. Assumes nothing.
-use mathlib.Core.Path.{sym, ap, _∙_}
+-- `sonsiplex_plan` packs the planner's answer, which meets the demands. Assumes nothing.
 use native.Mathlib.Omega.{arith}
-use Rattle.sonsiplex.specs.Packing.{planNumbers}
-use Rattle.sonsiplex.proofs.Exported.{packed, plan-fit}
+use Rattle.sonsiplex.proofs.Exported.{plan-fit, plan-exported}
 use borrow.Author.Needs.{needs}
 use Rattle.sonsiplex.proofs.sonsiplex_plan.Statement.{statement}
 use Rattle.sonsiplex.proofs.sonsiplex_plan.Tie as tie
@@ -14,7 +12,7 @@ enum-known-r : tie.Need-enum-known-r
 enum-known-r c = search needs
 
 cast-pack-numbers : tie.Need-cast-pack-numbers
-cast-pack-numbers c = omega (arith, plan-fit _ _ _ _ _ (c .before .before .before .plan-level .ensures .0) (c .before .r .given .1) .1)
+cast-pack-numbers c = omega (arith, plan-fit _ _ _ _ _ (c .before .before .before .plan-level .ensures .0) (c .before .r .given .1) .2)
 
 pack-numbers-requires : tie.Need-pack-numbers-requires
 pack-numbers-requires c κs = search needs
@@ -29,10 +27,12 @@ pack-numbers-requires-2 : tie.Need-pack-numbers-requires-2
 pack-numbers-requires-2 c κs = search needs
 
 returns : tie.Need-returns
-returns c = packed _ _ _ (ap planNumbers (sym (c .before .before .before .before .plan-level .ensures .0) ∙ c .before .before .r .given .1)) (c .pack-numbers .ensures)
+returns c =
+    plan-exported _ _ _ _ _ _ (c .before .before .r .given .1) (c .before .before .before .before .plan-level .ensures) (c .pack-numbers .ensures)
 
 returns-2 : tie.Need-returns-2
-returns-2 c = packed _ _ _ (ap planNumbers (sym (c .before .before .before .before .plan-level .ensures .0) ∙ c .before .before .number .given .1)) (c .pack-numbers2 .ensures)
+returns-2 c =
+    plan-exported _ _ _ _ _ _ (c .before .before .number .given .1) (c .before .before .before .before .plan-level .ensures) (c .pack-numbers2 .ensures)
 
 pub sonsiplex-plan-spec : {M : Type 1} → statement M
 sonsiplex-plan-spec =

@@ -18,7 +18,8 @@ use Rattle.records.specs.declared.setup.Setup.{Setup}
 use Rattle.judge.specs.List.{Walk, ListResult, refuse, finish, listCheck, leavesOf, listOf}
 use Rattle.judge.specs.Mirror.Walked.{walkIn}
 use Rattle.judge.specs.declared.answers.Listed.{Listed}
-use Rattle.judge.proofs.ListLaws.{Fits, reads-as, met, result, fitting, goes}
+use Rattle.judge.proofs.Fitting.{Fits, fitting}
+use Rattle.judge.proofs.ListLaws.{reads-as, met, result, goes}
 use borrow.Author.Needs.{needs}
 use Rattle.judge.proofs.list.list_rights.Statement.{statement}
 use Rattle.judge.proofs.list.list_rights.Tie as tie

@@ -1,6 +1,5 @@
 -- `pack_numbers`: each number fits its field. Assumes nothing.
 use borrow.Author.Needs.{needs}
-use Rattle.sonsiplex.proofs.PackingLaws.{number}
 use Rattle.sonsiplex.proofs.packing.pack_numbers.Statement.{statement}
 use Rattle.sonsiplex.proofs.packing.pack_numbers.Tie as tie
 
@@ -20,7 +19,7 @@ add-result-2 : tie.Need-add-result-2
 add-result-2 c = search needs
 
 returns : tie.Need-returns
-returns c = (search needs, number _ _ _ _ (search needs) (search needs) (search needs))
+returns c = (search needs, (search needs, search needs, search needs))
 
 pub pack-numbers-spec : {M : Type 1} → statement M
 pack-numbers-spec =
