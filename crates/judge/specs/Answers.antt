@@ -1,5 +1,5 @@
 -- The paper's number and values for each case of an answer of the judge (document 01, 'Numbers for no', last paragraph, and 'What form each place
--- needs'). The demands and the loader's interface use it. Assumes nothing.
+-- needs'). Demand 1 and the loader's interface use it. Assumes nothing.
 use Prim.Native.Nat.{ℕ}
 use Rattle.records.specs.Values.{Values, refusal, faulted, allowed, withRights, withCount}
 use Rattle.rights.specs.declared.answers.Kind.{Kind}

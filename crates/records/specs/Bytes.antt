@@ -1,5 +1,4 @@
--- Document 01, 'Setup and leaf records': numbers are little-endian. Bytes of a list. Cited by the contracts of every layer. Assumes
--- nothing.
+-- Document 01, 'Setup and leaf records': numbers are little-endian. Bytes of a list. Assumes nothing.
 use Prim.Native.Nat.{ℕ, _+_, _*_, _^_}
 use mathlib.Core.List.{List, [], _∷_, _++_}
 use lib.ListN.{length, drop, getD}

@@ -43,7 +43,7 @@ leavesOf (suc m) (x ∷ s) =
 unfoldable pub fileOf : List ℕ → Leaves
 fileOf s = cond (beginsWith 1 52 s) (leavesOf 2048 (rest 52 s)) illFormed
 
--- the setup's bytes: the value of a first field of 52 bytes, or none where s is too short for one
+-- the setup's bytes in a file that is read as a map: the place of the first field's value, and nothing where s is too short for it
 unfoldable pub setupIn : List ℕ → List ℕ
 setupIn s = cond (leb 55 (length s)) (value 52 s) []
 

@@ -27,7 +27,7 @@ use Rattle.rights.specs.declared.indirect.Codes.{Codes}
 use Rattle.rights.specs.Answers.{follow, faultOf, faultUnless, refuseIf, descriptorAnswer, permitted}
 use Rattle.rights.specs.Promise.{collect, levelOf, LevelAnswer}
 use Rattle.rights.specs.Stage1.{dirty, baseAnswer, stage1Answer}
-use Rattle.rights.specs.Order.{stagesAnswer}
+use Rattle.rights.specs.Order.{stage1If, stagesAnswer}
 use Rattle.records.specs.Setup.{bitOf, registerOf}
 use Rattle.rights.specs.Overlay.{slotAnswer, overlayAnswer}
 use Rattle.rights.specs.Mirror.Pass.{everything, fromBase, stage1Pass, stage2Pass, none, any, both, overlaid, passLevel, passWith, pass, Stage1Pass, Stage2Pass}
@@ -37,6 +37,7 @@ use Rattle.rights.specs.declared.answers.Answer.the-variants.{Permitted,
 use Rattle.rights.specs.declared.answers.Kind.{Kind}
 use Rattle.rights.specs.declared.answers.Kind.the-variants.{Translation, AccessFlag, Permission, Overlay}
 use Rattle.records.specs.declared.access.LevelRights.{LevelRights}
+use Rattle.rights.proofs.OrderLaws.{stages-as}
 
 -- the fault that a descriptor gives every access, by its valid bit
 abbrev firstFault : ℕ → Bool → Answer
@@ -208,9 +209,11 @@ with-stage1 o (Stage1Pass.Refused n) v t j k l = refl
 both-agree : (s : Setup) (d : Stage1) (e : Stage2) (t : Limits) (l : Level)
     → level (stagesAnswer s d e t (accessOf l Read)) (stagesAnswer s d e t (accessOf l Write)) (stagesAnswer s d e t (accessOf l Execute))
     ≡ (pass s d e t l, none)
-unfolding stagesAnswer
 both-agree s d e t l =
     rw (
+      stages-as s d e t (accessOf l Read) (stage1If s d t (accessOf l Read)) refl,
+      stages-as s d e t (accessOf l Write) (stage1If s d t (accessOf l Write)) refl,
+      stages-as s d e t (accessOf l Execute) (stage1If s d t (accessOf l Execute)) refl,
       stage1-as s d t l Read,
       stage1-as s d t l Write,
       stage1-as s d t l Execute,

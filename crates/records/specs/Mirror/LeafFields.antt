@@ -1,4 +1,5 @@
--- What `leaf_fields` and `deliver` answer: private to the layer. Assumes nothing.
+-- What `leaf_fields` and `deliver` answer: private to the layer. Nothing here needs to be believed: the laws `read-ill` and `read-whole` of
+-- proofs/LeafFields tie it to `readFile`. Assumes nothing.
 use Prim.Native.Nat.{ℕ, _*_}
 use mathlib.Core.List.{List}
 use lib.ListN.{take}
