@@ -1,10 +1,9 @@
 -- How large a list's answer can be, by its demands: at most 2,048 leaves, and a refusal names one of them. Assumes nothing.
 use mathlib.Core.Path.{_≡_, refl}
 use mathlib.Core.List.{List}
-use mathlib.Core.Logic.{_⊎_, inl, inr}
 use Prim.Native.Nat.{ℕ, _≤_, _<_}
 use native.Mathlib.Omega.{arith}
-use Rattle.records.proofs.Extension.{AllPass, FirstAt, decided}
+use Rattle.records.proofs.CheckLaws.{Ways, refused-before, refused-at, none-refused, ways}
 use Rattle.records.specs.Leaf.{leafAt, leafCount}
 use Rattle.records.specs.Setup.{setupOf}
 use Rattle.records.specs.declared.check.Check.{Check}
@@ -20,26 +19,22 @@ pub data Within : Listed → Type 0 where
   done : (n : ℕ) → n ≤ 2048 → Within (Done n)
   refusal : (k i : ℕ) → i < 2048 → Within (Refused k i)
 
-module _ (b ls o : List ℕ) where
+module _ (b ls o c : List ℕ) where
   -- the refusal of leaf i
   abbrev R : ℕ → Check
   R i = leafRefusal (setupOf b) (leafAt ls i)
 
-  demanded : ListDemands b ls o (listOf b ls o .answer) (listOf b ls o .out)
-  demanded = list-met b ls o (listOf b ls o .answer) (listOf b ls o .out) (refl, refl)
+  demanded : ListDemands b ls o c (listOf b ls o c .answer) (listOf b ls o c .out) (listOf b ls o c .causes)
+  demanded = list-met b ls o c (listOf b ls o c .answer) (listOf b ls o c .out) (listOf b ls o c .causes) (refl, refl, refl)
 
   -- every answer
-  pub within : Within (listOf b ls o .answer)
-  within = start (startRefusal b ls o) refl
+  pub within : Within (listOf b ls o c .answer)
+  within = go (ways (startRefusal b ls o c) R (leafCount ls))
     where
-      leaves : startRefusal b ls o ≡ check.Passes → AllPass R (leafCount ls) ⊎ ((k : ℕ) × (i : ℕ) × FirstAt R (leafCount ls) k i)
-          → Within (listOf b ls o .answer)
-      leaves e (inl h) = rw (demanded .done e h .0) (done (leafCount ls) (start-passes b ls o e .few))
-      leaves e (inr (k, i, h)) =
-          let few = start-passes b ls o e .few in
+      go : Ways (startRefusal b ls o c) R (leafCount ls) → Within (listOf b ls o c .answer)
+      go (refused-before k e) = rw (demanded .before k e) (refusal k 0 (omega arith))
+      go (refused-at k i e h) =
+          let few = start-passes b ls o c e .few in
           let i-in = h .within in
           rw (demanded .at-leaf e k i (h .within) (h .before) (h .refuses)) (refusal k i (omega arith))
-
-      start : (x : Check) → startRefusal b ls o ≡ x → Within (listOf b ls o .answer)
-      start check.Passes e = leaves e (decided R (leafCount ls))
-      start (check.Refused k) e = rw (demanded .before k e) (refusal k 0 (omega arith))
+      go (none-refused e h) = rw (demanded .done e h .0) (done (leafCount ls) (start-passes b ls o c e .few))

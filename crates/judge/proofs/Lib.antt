@@ -4,6 +4,7 @@ pub mod Masks
 pub mod Outcome
 pub mod Demands
 pub mod Bits
+pub mod CauseBytes
 pub mod Fitting
 pub mod ListDemands
 pub mod ListMet
@@ -12,3 +13,4 @@ pub mod ListLaws
 pub mod Bounds
 pub mod Cases
 pub mod QuickLaws
+pub mod Before

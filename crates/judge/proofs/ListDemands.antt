@@ -10,8 +10,8 @@ use native.Mathlib.Omega.{arith}
 use lib.Dec.{eqb}
 use lib.ListN.{length, getD}
 use borrow.Author.Tests.{leb-true}
-use Rattle.records.proofs.Cases.{clash, upto, at}
-use Rattle.records.proofs.Extension.{both-pass, refused-by, checked, AllPass, FirstAt}
+use Rattle.records.proofs.Cases.{clash, at}
+use Rattle.records.proofs.CheckLaws.{both-pass, refused-by, each-passes, checked, AllPass, FirstAt}
 use Rattle.records.specs.Bits.{bit}
 use Rattle.records.specs.Bytes.{over}
 use Rattle.records.specs.Leaf.{leafAt, leafCount}
@@ -31,7 +31,7 @@ use Rattle.attributes.specs.declared.Memory.{Memory}
 use Rattle.judge.specs.Demands.{stage1, stage2, accessRefusal, isJudged, startRefusal, leafRefusal, rightsBit, ListNumber}
 use Rattle.judge.specs.Judge.{judged}
 use Rattle.judge.specs.LeafRights.{add, gather, judgedAccesses, leafRights}
-use Rattle.judge.specs.List.{bytes, refused, walk, refuse, fits, listCheck, leavesOf, listRead, listOf}
+use Rattle.judge.specs.List.{bytes, refused, walk, causesOf, refuse, fits, listCheck, leavesOf, listRead, listOf}
 use Rattle.judge.specs.declared.answers.Judgement.{Judgement}
 use Rattle.judge.specs.declared.answers.Judgement.the-variants as judgement
 use Rattle.judge.specs.declared.answers.LeafRights.{LeafRights}
@@ -50,23 +50,20 @@ all-judged : (two : Bool) → Judged two (judgedAccesses two)
 all-judged true = (refl, (refl, (refl, (refl, (refl, (refl, tt))))))
 all-judged false = (refl, (refl, (refl, tt)))
 
--- where no access is refused, none of the judged ones is
-three : (R : ℕ → Check) → firstOf R (0 ∷ 1 ∷ 2 ∷ []) ≡ check.Passes → upto 3 R ≡ upto 3 (λ (k : ℕ). check.Passes)
-three R e =
-    let a = both-pass (R 0) _ e in
-    let b = both-pass (R 1) _ (a .1) in
-    let c = both-pass (R 2) _ (b .1) in
-    rw (a .0, b .0, c .0)
+-- a judged access is the one of its number
+numbers : (two : Bool) (a : ℕ) → isJudged two a ≡ true → (a < length (judgedAccesses two)) × (getD (judgedAccesses two) a 0 ≡ a)
+numbers true a e =
+    let h : a < 6 = (let g = leb-true a 5 e in omega arith) in (h, at 6 (λ (k : ℕ). getD (judgedAccesses true) k 0) (λ (k : ℕ). k) refl a h)
+numbers false a e =
+    let h : a < 3 = (let g = leb-true a 2 e in omega arith) in (h, at 3 (λ (k : ℕ). getD (judgedAccesses false) k 0) (λ (k : ℕ). k) refl a h)
 
-six : (R : ℕ → Check) → firstOf R (0 ∷ 1 ∷ 2 ∷ 3 ∷ 4 ∷ 5 ∷ []) ≡ check.Passes → upto 6 R ≡ upto 6 (λ (k : ℕ). check.Passes)
-six R e =
-    let a = both-pass (R 0) _ e in
-    let b = both-pass (R 1) _ (a .1) in
-    let c = both-pass (R 2) _ (b .1) in
-    let d = both-pass (R 3) _ (c .1) in
-    let f = both-pass (R 4) _ (d .1) in
-    let g = both-pass (R 5) _ (f .1) in
-    rw (a .0, b .0, c .0, d .0, f .0, g .0)
+-- where no judged access is refused, each of them is not
+pub judged-passes : (s : Setup) (f : Leaf) → firstOf (accessRefusal s f) (judgedAccesses (s .control .two)) ≡ check.Passes
+    → (a : ℕ) → isJudged (s .control .two) a ≡ true → accessRefusal s f a ≡ check.Passes
+judged-passes s f e a = go (s .control .two) e
+  where
+    go : (two : Bool) → firstOf (accessRefusal s f) (judgedAccesses two) ≡ check.Passes → isJudged two a ≡ true → accessRefusal s f a ≡ check.Passes
+    go two p q = ap (accessRefusal s f) (sym (numbers two a q .1)) ∙ each-passes (accessRefusal s f) (judgedAccesses two) p a (numbers two a q .0)
 
 module _ (s : Setup) (f : Leaf) (ok : setupCheck (s .control) ≡ check.Passes) where
   -- a judged access, by 5 and its own refusals
@@ -144,16 +141,12 @@ module _ (s : Setup) (f : Leaf) (ok : setupCheck (s .control) ≡ check.Passes) 
   unfolding leafRefusal
   leaf-bit e b h a = leaf-bits s f b h a ∙ go (isJudged (s .control .two) a) refl
     where
-      member : (two : Bool) → firstOf (accessRefusal s f) (judgedAccesses two) ≡ check.Passes → isJudged two a ≡ true → accessRefusal s f a ≡ check.Passes
-      member true p q = at 6 (accessRefusal s f) (λ (k : ℕ). check.Passes) (six (accessRefusal s f) p) a (let g = leb-true a 5 q in omega arith)
-      member false p q = at 3 (accessRefusal s f) (λ (k : ℕ). check.Passes) (three (accessRefusal s f) p) a (let g = leb-true a 2 q in omega arith)
-
       go : (t : Bool) → isJudged (s .control .two) a ≡ t
           → (isJudged (s .control .two) a && isAllowed (judged s f a)) ≡ rightsBit s f a
       go false q = rw q
       go true q =
           let p = both-pass (leafCheck f) _ e in
-          let z : judged s f a ≡ outcomeOf s f a = access-as (p .0) a q ∙ rw (member (s .control .two) (p .1) q) in
+          let z : judged s f a ≡ outcomeOf s f a = access-as (p .0) a q ∙ rw (judged-passes s f (p .1) a q) in
           rw (q, z) (allows a (stage1 s f a) (stage2 s f a) (memory s f a))
 
 -- a walk whose leaf d is the first that is refused, and one of which none is
@@ -175,7 +168,7 @@ walk-passes g (suc m) i p =
     let w = walk-passes g m (suc i) (λ j l. let x = p (suc j) (omega arith) in (x .0, ap g (suc-add i j ∙ sym (add-suc i j)) ∙ x .1)) in
     (b .0 ∷ w .0, rw (rw add-zero at (b .1), w .1))
 
-module _ (b ls o : List ℕ) where
+module _ (b ls o c : List ℕ) where
   abbrev s : Setup
   s = setupOf b
 
@@ -184,27 +177,27 @@ module _ (b ls o : List ℕ) where
   R i = leafRefusal s (leafAt ls i)
 
   -- the list by its refusals before the leaves
-  pub list-by : listOf b ls o ≡ ifPasses (startRefusal b ls o) (λ (n : ℕ). refuse n 0 o) (leavesOf s ls o)
+  pub list-by : listOf b ls o c ≡ ifPasses (startRefusal b ls o c) (λ (n : ℕ). refuse n 0 o c) (leavesOf s ls o c)
   unfolding listOf readSetup
   list-by = go (eqb (length b) 52)
     where
-      go : (t : Bool) → listRead (cond t (setup.Read (setupOf b)) (setup.Refused 13)) ls o
-          ≡ ifPasses (checkThen (checkIf (not t) 13) (listCheck (s .control) (length ls) (length o))) (λ (n : ℕ). refuse n 0 o) (leavesOf s ls o)
+      go : (t : Bool) → listRead (cond t (setup.Read (setupOf b)) (setup.Refused 13)) ls o c
+          ≡ ifPasses (checkThen (checkIf (not t) 13) (listCheck (s .control) (length ls) (length o) (length c))) (λ (n : ℕ). refuse n 0 o c) (leavesOf s ls o c)
       go true = refl
       go false = refl
 
   -- what the checks before the leaves tell, where they pass
-  pub start-passes : startRefusal b ls o ≡ check.Passes → Fits (s .control) (length ls) (length o)
-  start-passes e = fitting (s .control) (length ls) (length o) (both-pass (lengthCheck b 52) _ e .1)
+  pub start-passes : startRefusal b ls o c ≡ check.Passes → Fits (s .control) (length ls) (length o) (length c)
+  start-passes e = fitting (s .control) (length ls) (length o) (length c) (both-pass (lengthCheck b 52) _ e .1)
 
-  started : startRefusal b ls o ≡ check.Passes → listOf b ls o ≡ leavesOf s ls o
+  started : startRefusal b ls o c ≡ check.Passes → listOf b ls o c ≡ leavesOf s ls o c
   started e = list-by ∙ rw e
 
-  module _ (e : startRefusal b ls o ≡ check.Passes) where
+  module _ (e : startRefusal b ls o c ≡ check.Passes) where
     ok : setupCheck (s .control) ≡ check.Passes
     ok = start-passes e .accepted
 
-    pub stopped : (k i : ℕ) → FirstAt R (leafCount ls) k i → listOf b ls o ≡ refuse k i o
+    pub stopped : (k i : ℕ) → FirstAt R (leafCount ls) k i → listOf b ls o c ≡ refuse k i o c
     unfolding leavesOf
     stopped k i h =
         let w = walk-refused (λ (j : ℕ). leafRights s (leafAt ls j)) (leafCount ls) 0 i k (h .within)
@@ -212,7 +205,7 @@ module _ (b ls o : List ℕ) where
         started e ∙ rw (w, zero-add)
 
     pub written : AllPass R (leafCount ls)
-        → (v : List ℕ) × (listOf b ls o ≡ record { answer = listed.Done (leafCount ls); out = over v o }) × (length v ≡ leafCount ls)
+        → (v : List ℕ) × (listOf b ls o c ≡ record { answer = listed.Done (leafCount ls); out = over v o; causes = over (causesOf s ls) c }) × (length v ≡ leafCount ls)
         × ((i a : ℕ) → i < leafCount ls → bit (getD v i 0) a ≡ rightsBit s (leafAt ls i) a)
     unfolding leavesOf
     written h =
@@ -221,11 +214,11 @@ module _ (b ls o : List ℕ) where
         (w .0, started e ∙ rw (w .1), x .0, λ i a l. leaf-bit s (leafAt ls i) ok (h i l) (getD (w .0) i 0) (rw zero-add at (x .1 i l)) a)
 
   -- the numbers of a refusal
-  pub start-number : (k : ℕ) → startRefusal b ls o ≡ check.Refused k → ListNumber k
+  pub start-number : (k : ℕ) → startRefusal b ls o c ≡ check.Refused k → ListNumber k
   unfolding listCheck
   start-number k =
       refused-by _ _ k (λ h. inr (inr (inr (checked (not (eqb (length b) 52)) 13 k h))))
-      (refused-by _ _ k (λ h. inl (setup-number (s .control) k h)) (λ h. inr (inr (inl (checked (not (fits (length ls) (length o))) 11 k h)))))
+      (refused-by _ _ k (λ h. inl (setup-number (s .control) k h)) (λ h. inr (inr (inl (checked (not (fits (length ls) (length o) (length c))) 11 k h)))))
 
   pub leaf-number-of : (k i : ℕ) → R i ≡ check.Refused k → ListNumber k
   unfolding leafRefusal

@@ -9,7 +9,7 @@ use native.Mathlib.Omega.{arith}
 use lib.Dec.{eqb}
 use lib.ListN.{length}
 use Rattle.records.proofs.Cases.{clash}
-use Rattle.records.proofs.Extension.{both-pass, refused-by, checked}
+use Rattle.records.proofs.CheckLaws.{both-pass, refused-by, checked}
 use Rattle.records.specs.Access.{accessAt}
 use Rattle.records.specs.Descriptor.{stage1Of, stage2Of}
 use Rattle.records.specs.Leaf.{leafOf, readLeaf}
@@ -114,9 +114,9 @@ module _ (s : Setup) (f : Leaf) (n : ℕ) where
       go : (p : Answer) → Named 1 p → (q : Answer) → Named 2 q
           → stepsRefusal p q (checkOf s (stage1Of (f .stage1)) (stage2Of (f .stage2))) ≡ check.Refused k → (6 ≤ k) × (k ≤ 9)
       go _ permits _ permits e = attributes e
-      go _ permits _ (faults j h) e = clash (cc)
+      go _ permits _ (faults j p h) e = clash (cc)
       go _ permits _ (refuses m h) e = let g : m ≡ k = cc in omega arith
-      go _ (faults j h) q _ e = clash (cc)
+      go _ (faults j p h) q _ e = clash (cc)
       go _ (refuses m h) q _ e = let g : m ≡ k = cc in omega arith
 
 -- the judge's answer by the first refusal

@@ -1,9 +1,7 @@
 -- The paper's number and values for each case of an answer of the judge (document 01, 'Numbers for no', last paragraph, and 'What form each place
 -- needs'). Demand 1 and the loader's interface use it. Assumes nothing.
-use Prim.Native.Nat.{ℕ}
 use Rattle.records.specs.Values.{Values, refusal, faulted, allowed, withRights, withCount}
-use Rattle.rights.specs.declared.answers.Kind.{Kind}
-use Rattle.rights.specs.declared.answers.Kind.the-variants.{Translation, AccessFlag, Permission, Overlay}
+use Rattle.rights.specs.Answers.{kindNumber}
 use Rattle.judge.specs.declared.answers.Judgement.{Judgement}
 use Rattle.judge.specs.declared.answers.Judgement.the-variants as judgement
 use Rattle.judge.specs.declared.answers.LeafRights.{LeafRights}
@@ -11,16 +9,9 @@ use Rattle.judge.specs.declared.answers.LeafRights.the-variants as leaf
 use Rattle.judge.specs.declared.answers.Listed.{Listed}
 use Rattle.judge.specs.declared.answers.Listed.the-variants as listed
 
--- the kinds of fault, in the paper's order from 1 on
-abbrev pub kindNumber : Kind → ℕ
-kindNumber Translation = 1
-kindNumber AccessFlag = 2
-kindNumber Permission = 3
-kindNumber Overlay = 4
-
 abbrev pub judgementValues : Judgement → Values
 judgementValues (judgement.Allowed m) = allowed (m .byte) (m .sh)
-judgementValues (judgement.Fault g) = faulted (g .stage) (kindNumber (g .kind))
+judgementValues (judgement.Fault g) = faulted (g .stage) (kindNumber (g .kind)) (g .cause)
 judgementValues (judgement.Refused n) = refusal n 0
 
 abbrev pub leafValues : LeafRights → Values

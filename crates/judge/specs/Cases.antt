@@ -1,4 +1,4 @@
--- Document 01, 'Numbers to check against': the starred cases a to l, as one table. Control 7 unless said, MAIR 4FAA0444FF00, limits 0.
+-- Document 01, 'Numbers to check against': the starred cases a to l, as one table, with the causes of request A1. Control 7 unless said, MAIR 4FAA0444FF00, limits 0.
 -- Assumes nothing.
 use Prim.Native.Nat.{ℕ, zero, suc, _/_, _%_}
 use mathlib.Core.List.{List, [], _∷_, _++_}
@@ -37,8 +37,9 @@ row c t one two n j r = record { control = c; limits = t; stage1 = one; stage2 =
 abbrev pub allowed : ℕ → ℕ → Judgement
 allowed b sh = Allowed (record { byte = b; sh = sh })
 
-abbrev pub fault : ℕ → Kind → Judgement
-fault s k = Fault (record { stage = s; kind = k })
+-- a fault with the cause that request A1 gives it
+abbrev pub fault : ℕ → Kind → ℕ → Judgement
+fault s k c = Fault (record { stage = s; kind = k; cause = c })
 
 -- control 7, and with FWB
 abbrev pub plain : ℕ
@@ -51,12 +52,12 @@ fwb = 0x207
 abbrev pub starred : List Case
 starred =
     row plain 0 0x747 0x7FF 4 (allowed 0xFF 3) (59 ∷ []) ∷
-    row plain 0 0x747 0x7FF 2 (fault 1 Permission) [] ∷
+    row plain 0 0x747 0x7FF 2 (fault 1 Permission 5) [] ∷
     row plain 2 0x747 0x7FF 2 (allowed 0xFF 3) (45 ∷ []) ∷
-    row plain 0 0x747 0x77F 4 (fault 2 Permission) [] ∷
-    row plain 2 0x747 0x77F 4 (fault 1 Permission) [] ∷
-    row plain 0 0x346 0x7FF 0 (fault 1 Translation) [] ∷
-    row plain 0 0x347 0x7FF 0 (fault 1 AccessFlag) [] ∷
+    row plain 0 0x747 0x77F 4 (fault 2 Permission 9) [] ∷
+    row plain 2 0x747 0x77F 4 (fault 1 Permission 2) [] ∷
+    row plain 0 0x346 0x7FF 0 (fault 1 Translation 11) [] ∷
+    row plain 0 0x347 0x7FF 0 (fault 1 AccessFlag 12) [] ∷
     row plain 0 0x747 0x7D7 0 (allowed 0x44 2) [] ∷
     row plain 0 0x74F 0x7CF 0 (allowed 0x04 2) [] ∷
     row fwb 0 0x753 0x7DB 0 (allowed 0xEE 3) [] ∷

@@ -35,7 +35,7 @@ fn combined(a: Attributes) -> Judgement
 }
 
 // From 1 on: checks, stage 1, stage 2, then 8, 8, 9. Accesses 2 and 5 are fetches.
-fn judge_read(s: Setup, f: Leaf, n: u64) -> Judgement
+pub(crate) fn judge_read(s: Setup, f: Leaf, n: u64) -> Judgement
     ensures { λ r. ⌜ r ≡ judged s f n ⌝ }
 {
     let answer = rights::order::judge_rights(s, f, n);

@@ -2,7 +2,7 @@
 use attributes::Memory;
 use rights::answers::Fault;
 
-// Allowed with byte and SH, a fault with stage and kind, or a refusal's number.
+// Allowed with byte and SH, a fault with stage, kind and cause, or a refusal's number.
 pub enum Judgement {
     Allowed(Memory),
     Fault(Fault),
@@ -15,7 +15,7 @@ pub(crate) enum LeafRights {
     Refused(u8),
 }
 
-// The number of leaves whose rights were written; or a refusal's number and the leaf's index, 0 if none is at fault.
+// The number of leaves whose rights and causes were written; or a refusal's number and the leaf's index, 0 if none is at fault.
 pub enum Listed {
     Done(usize),
     Refused { number: u8, leaf: usize },

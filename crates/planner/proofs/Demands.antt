@@ -11,7 +11,8 @@ use lib.Dec.{eqb, leb, ltb}
 use lib.ListN.{length, length-take, length-drop}
 use borrow.Author.Tests.{eqb-true, leb-true, ltb-true, ltb-false, eq-eqb}
 use Rattle.records.proofs.Cases.{clash, both-hold}
-use Rattle.records.proofs.Extension.{same-bits, both-pass, refused-by, checked, passed, AllPass, FirstAt, decided, same-first}
+use Rattle.records.proofs.CheckLaws.{both-pass, refused-by, checked, passed, AllPass, FirstAt, same-first, Ways, refused-before, refused-at, none-refused, ways}
+use Rattle.records.proofs.SameBits.{same-bits}
 use Rattle.records.specs.Bits.{bit}
 use Rattle.records.specs.Descriptor.{stage1Of, stage2Of, limitsOf}
 use Rattle.records.specs.Leaf.{leafOf, leafAt, leafCount, leafSlice, readLeaf, wholeLeaves}
@@ -221,15 +222,12 @@ module _ (b : List ℕ) (lv : ℕ) (ls : List ℕ) where
     accepted-case : (p : Plan) → startRefusal b lv ls ≡ check.Passes → AllPass R (leafCount ls) → Demand3 s l ls p → Case p
 
   case : Case (planOf b lv ls)
-  case = begun (startRefusal b lv ls) refl
+  case = go (ways (startRefusal b lv ls) R (leafCount ls))
     where
-      leaves : startRefusal b lv ls ≡ check.Passes → AllPass R (leafCount ls) ⊎ ((k : ℕ) × (i : ℕ) × FirstAt R (leafCount ls) k i) → Case (planOf b lv ls)
-      leaves e (inl h) = accepted-case _ e h (demand3 b lv ls (planOf b lv ls) refl s l (accepted e h))
-      leaves e (inr (k, i, h)) = rw (stopped e k i h) (at-leaf k i e h)
-
-      begun : (x : Check) → startRefusal b lv ls ≡ x → Case (planOf b lv ls)
-      begun check.Passes e = leaves e (decided R (leafCount ls))
-      begun (check.Refused k) e = rw (plan-by, e) (before k e)
+      go : Ways (startRefusal b lv ls) R (leafCount ls) → Case (planOf b lv ls)
+      go (refused-before k e) = rw (plan-by, e) (before k e)
+      go (refused-at k i e h) = rw (stopped e k i h) (at-leaf k i e h)
+      go (none-refused e h) = accepted-case _ e h (demand3 b lv ls (planOf b lv ls) refl s l (accepted e h))
 
   number-in : (p : Plan) → Case p → (m j : ℕ) → p ≡ Refused m j → PlannerNumber m
   number-in _ (before k e) m j q = let g : k ≡ m = cc in rw (← g) (start-number k e)
@@ -261,12 +259,9 @@ module _ (b : List ℕ) (lv : ℕ) (ls : List ℕ) where
 
   -- the demands leave one answer
   pub plan-unique : (p q : Plan) → PlannerDemands b lv ls p → PlannerDemands b lv ls q → p ≡ q
-  plan-unique p q d e = begun (startRefusal b lv ls) refl
+  plan-unique p q d e = go (ways (startRefusal b lv ls) R (leafCount ls))
     where
-      leaves : startRefusal b lv ls ≡ check.Passes → AllPass R (leafCount ls) ⊎ ((k : ℕ) × (i : ℕ) × FirstAt R (leafCount ls) k i) → p ≡ q
-      leaves h (inl a) = same-settled p q (d .settled s l (accepted h a)) (e .settled s l (accepted h a))
-      leaves h (inr (k, i, a)) = d .at-leaf h k i (a .within) (a .before) (a .refuses) ∙ sym (e .at-leaf h k i (a .within) (a .before) (a .refuses))
-
-      begun : (x : Check) → startRefusal b lv ls ≡ x → p ≡ q
-      begun check.Passes h = leaves h (decided R (leafCount ls))
-      begun (check.Refused k) h = d .before k h ∙ sym (e .before k h)
+      go : Ways (startRefusal b lv ls) R (leafCount ls) → p ≡ q
+      go (refused-before k h) = d .before k h ∙ sym (e .before k h)
+      go (refused-at k i h a) = d .at-leaf h k i (a .within) (a .before) (a .refuses) ∙ sym (e .at-leaf h k i (a .within) (a .before) (a .refuses))
+      go (none-refused h a) = same-settled p q (d .settled s l (accepted h a)) (e .settled s l (accepted h a))

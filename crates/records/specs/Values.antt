@@ -36,38 +36,39 @@ abbrev pub ifPasses : {A : Type 0} → Check → (ℕ → A) → A → A
 ifPasses Passes refuse x = x
 ifPasses (Refused n) refuse x = refuse n
 
--- The values of an answer, 0 where the paper says 0: a refusal's number and leaf; a fault's stage and kind; an allowed access's byte and SH; a
+-- The values of an answer, 0 where the paper says 0: a refusal's number and leaf; a fault's stage, kind and cause; an allowed access's byte and SH; a
 -- leaf's rights; how many leaves a list or a file has; a register.
 pub record Values : Type 0 where
   pub number : ℕ
   pub leaf : ℕ
   pub stage : ℕ
   pub kind : ℕ
+  pub cause : ℕ
   pub byte : ℕ
   pub sh : ℕ
   pub rights : ℕ
   pub count : ℕ
   pub register : ℕ
 
--- registers, rights, byte and SH in a refusal are 0
+-- registers, rights, byte and SH in a refusal are 0, and by request A1 its cause
 abbrev pub refusal : ℕ → ℕ → Values
 refusal n i =
-    record { number = n; leaf = i; stage = 0; kind = 0; byte = 0; sh = 0; rights = 0; count = 0; register = 0 }
+    record { number = n; leaf = i; stage = 0; kind = 0; cause = 0; byte = 0; sh = 0; rights = 0; count = 0; register = 0 }
 
--- a fault carries its stage and kind, with byte and SH 0
-abbrev pub faulted : ℕ → ℕ → Values
-faulted s k = record { number = 0; leaf = 0; stage = s; kind = k; byte = 0; sh = 0; rights = 0; count = 0; register = 0 }
+-- a fault carries its stage and kind, with byte and SH 0, and its cause, which request A1 adds
+abbrev pub faulted : ℕ → ℕ → ℕ → Values
+faulted s k c = record { number = 0; leaf = 0; stage = s; kind = k; cause = c; byte = 0; sh = 0; rights = 0; count = 0; register = 0 }
 
 -- an allowed access carries its byte and SH
 abbrev pub allowed : ℕ → ℕ → Values
-allowed b h = record { number = 0; leaf = 0; stage = 0; kind = 0; byte = b; sh = h; rights = 0; count = 0; register = 0 }
+allowed b h = record { number = 0; leaf = 0; stage = 0; kind = 0; cause = 0; byte = b; sh = h; rights = 0; count = 0; register = 0 }
 
 -- rights, a number of leaves, and a register
 abbrev pub withRights : ℕ → Values
-withRights r = record { number = 0; leaf = 0; stage = 0; kind = 0; byte = 0; sh = 0; rights = r; count = 0; register = 0 }
+withRights r = record { number = 0; leaf = 0; stage = 0; kind = 0; cause = 0; byte = 0; sh = 0; rights = r; count = 0; register = 0 }
 
 abbrev pub withCount : ℕ → Values
-withCount n = record { number = 0; leaf = 0; stage = 0; kind = 0; byte = 0; sh = 0; rights = 0; count = n; register = 0 }
+withCount n = record { number = 0; leaf = 0; stage = 0; kind = 0; cause = 0; byte = 0; sh = 0; rights = 0; count = n; register = 0 }
 
 abbrev pub withRegister : ℕ → Values
-withRegister r = record { number = 0; leaf = 0; stage = 0; kind = 0; byte = 0; sh = 0; rights = 0; count = 0; register = r }
+withRegister r = record { number = 0; leaf = 0; stage = 0; kind = 0; cause = 0; byte = 0; sh = 0; rights = 0; count = 0; register = r }

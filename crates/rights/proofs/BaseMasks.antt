@@ -19,6 +19,7 @@ use Rattle.rights.specs.Direct as direct
 use Rattle.rights.specs.Indirect.{meanings, fields, reserved, codeOf}
 use Rattle.rights.specs.Mirror.Base.{indirectStep}
 use Rattle.rights.specs.Mirror.BaseMasks.{baseMask, keep, descriptorTable, limitsTable, levelPlace, descriptorLeft, limitsLeft, descriptorPlace, removed, codes, upperBits, pairMask}
+use Rattle.rights.specs.Steps.{Step, step, fixed, everything, leftAfter}
 use Rattle.rights.specs.declared.pass.Mask.{Mask}
 use Rattle.records.specs.declared.access.Rights.{Rights}
 
@@ -36,9 +37,11 @@ tabledTwo m =
 
 abbrev leftTwo : List ℕ → Rights
 leftTwo m =
-    direct.executeNever (on m 6 && not (on m 8)) (on m 7 && not (on m 8))
-    (direct.executeNever (on m 2) (on m 3)
-    (direct.apTable (on m 5 && not (on m 8)) (on m 4 && not (on m 8)) (direct.ap (on m 1) (on m 0))))
+    leftAfter everything
+    (fixed 1 (direct.ap (on m 1) (on m 0)) ∷
+    fixed 2 (direct.apTable (on m 5 && not (on m 8)) (on m 4 && not (on m 8))) ∷
+    fixed 3 (direct.executeNever (on m 2) (on m 3)) ∷
+    fixed 4 (direct.executeNever (on m 6 && not (on m 8)) (on m 7 && not (on m 8))) ∷ [])
 
 two-left : (l : List ℕ) → length l ≡ 9 → tabledTwo (digits l) ≡ sixMask (leftTwo (digits l))
 unfolding direct.ap
@@ -48,11 +51,13 @@ two-left l h = each-digit l tabledTwo (λ (m : List ℕ). sixMask (leftTwo m)) (
 abbrev at6 : List Bool → Rights
 at6 m = six (getD m 2 false) (getD m 3 false) (getD m 4 false) (getD m 5 false) (getD m 6 false) (getD m 7 false)
 
-removed-is : (w p : Bool) (r : Rights)
-    → removed w p (sixMask r) ≡ sixMask (direct.pan p (direct.wxn w (direct.unprivilegedWrite r)))
+abbrev lastSteps : Bool → Bool → List Step
+lastSteps w p = step 5 (λ (r : Rights). direct.unprivilegedWrite (r .uw)) ∷ step 6 (direct.wxn w) ∷ step 7 (direct.pan p) ∷ []
+
+removed-is : (w p : Bool) (r : Rights) → removed w p (sixMask r) ≡ sixMask (leftAfter r (lastSteps w p))
 removed-is w p r =
     each (w ∷ p ∷ r .pr ∷ r .pw ∷ r .px ∷ r .ur ∷ r .uw ∷ r .ux ∷ []) (λ (m : List Bool). removed (getD m 0 false) (getD m 1 false) (sixMask (at6 m)))
-    (λ (m : List Bool). sixMask (direct.pan (getD m 1 false) (direct.wxn (getD m 0 false) (direct.unprivilegedWrite (at6 m))))) refl
+    (λ (m : List Bool). sixMask (leftAfter (at6 m) (lastSteps (getD m 0 false) (getD m 1 false)))) refl
 
 -- two digits of a number, and four
 pub two-digits : (n m : ℕ) → m ≡ n / 2 → n % 4 ≡ n % 2 + m % 2 * 2
@@ -81,7 +86,7 @@ twoLeft unlimited d t = bitAnd (getD descriptorTable (descriptorPlace d) 0) (kee
 -- Direct with two levels
 direct-two : (w d t : ℕ) → bit w 0 ≡ true
     → removed (bit w 6) (bit w 7) (twoLeft (bit w 8) d t) ≡ sixMask (direct.directOf (controlOf w) (stage1Of d) (limitsOf t))
-unfolding controlOf stage1Of limitsOf direct.directOf direct.directTwo
+unfolding controlOf stage1Of limitsOf direct.directOf direct.directSteps
 direct-two w d t h =
     let l : List ℕ = d / 2 ^ 6 ∷ d / 2 ^ 7 ∷ d / 2 ^ 53 ∷ d / 2 ^ 54 ∷ t / 2 ^ 0 ∷ t / 2 ^ 1 ∷ t / 2 ^ 2 ∷ t / 2 ^ 3 ∷ w / 2 ^ 8 ∷ [] in
     rw h
@@ -98,9 +103,12 @@ tabledOne m =
 
 abbrev leftOne : List ℕ → Rights
 leftOne m =
-    direct.wxn (on m 5)
-    (direct.executeNever (on m 3 && not (on m 4)) false
-    (direct.executeNever (on m 1) false (direct.apTable (on m 2 && not (on m 4)) false (direct.apOne (on m 0)))))
+    leftAfter everything
+    (fixed 1 (direct.apOne (on m 0)) ∷
+    fixed 2 (direct.apTable (on m 2 && not (on m 4)) false) ∷
+    fixed 3 (direct.executeNever (on m 1) false) ∷
+    fixed 4 (direct.executeNever (on m 3 && not (on m 4)) false) ∷
+    step 6 (direct.wxn (on m 5)) ∷ [])
 
 -- what descriptor d and limits t leave with one level
 abbrev oneLeft : Bool → ℕ → ℕ → ℕ
@@ -110,7 +118,7 @@ oneLeft unlimited d t =
 
 direct-one : (w d t : ℕ) → bit w 0 ≡ false
     → removed (bit w 6) (bit w 7) (oneLeft (bit w 8) d t) ≡ sixMask (direct.directOf (controlOf w) (stage1Of d) (limitsOf t))
-unfolding controlOf stage1Of limitsOf direct.directOf direct.directOne
+unfolding controlOf stage1Of limitsOf direct.directOf direct.directSteps
 direct-one w d t h =
     rw h
     (each-digit (d / 2 ^ 7 ∷ d / 2 ^ 54 ∷ t / 2 ^ 1 ∷ t / 2 ^ 3 ∷ w / 2 ^ 8 ∷ w / 2 ^ 6 ∷ w / 2 ^ 7 ∷ []) tabledOne (λ (m : List ℕ). sixMask (leftOne m)) refl)

@@ -2,6 +2,7 @@ pub mod Tables
 pub mod BaseMasks
 pub mod AnswerSteps
 pub mod OrderLaws
+pub mod Removers
 pub mod Named
 pub mod Agree
 pub mod LevelLaws
@@ -11,3 +12,4 @@ pub mod Masks
 pub mod Table
 pub mod Refusals
 pub mod PromiseLaws
+pub mod Before

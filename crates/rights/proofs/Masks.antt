@@ -31,6 +31,7 @@ use Rattle.records.specs.declared.access.Rights.{Rights}
 use Rattle.rights.specs.Overlay.{slotRights}
 use Rattle.rights.specs.Mirror.Masks.{levelMask, setupWith, stage1Mask, stage2Mask, appliesIn, stage2Table, stage2Left, slotLeft, maskWith, rangeWith}
 use Rattle.rights.specs.Promise.{slotTable, rangeMask, levelOf, rangeFrom, rangeOf, put, allOpen, LevelAnswer}
+use Rattle.rights.specs.Steps.{meet}
 use Rattle.rights.specs.Stage2.{xnPx, xnUx, stage2Rights}
 use Rattle.rights.proofs.Agree.{agree}
 use Rattle.rights.proofs.Ranges.{with-register, open-slot, shut-slot}
@@ -168,7 +169,9 @@ abbrev tabled : ℕ → List ℕ → ℕ
 tabled x m = getD stage2Table (getD m 0 0 + getD m 1 0 * 2 + x * 4) 0
 
 abbrev granted : ℕ → List ℕ → ℕ
-granted x m = sixMask (six (eqb (getD m 0 0) 1) (eqb (getD m 1 0) 1) (xnPx x) (eqb (getD m 0 0) 1) (eqb (getD m 1 0) 1) (xnUx x))
+granted x m =
+    sixMask
+    (meet (six (eqb (getD m 0 0) 1) (eqb (getD m 1 0) 1) true (eqb (getD m 0 0) 1) (eqb (getD m 1 0) 1) true) (six true true (xnPx x) true true (xnUx x)))
 
 pub stage2-table : (e : ℕ) → getD stage2Table (e / 2 ^ 6 % 4 + e / 2 ^ 53 % 4 * 4) 0 ≡ sixMask (stage2Rights (stage2Of e))
 unfolding stage2Of stage2Rights xnPx xnUx

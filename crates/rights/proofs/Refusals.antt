@@ -77,9 +77,9 @@ module _ (s : Setup) (l : Level) (f : Leaf) where
     where
       go : (a : Answer) → Named 1 a → (b : Answer) → Named 2 b → follow a b ≡ answer.Refused n → (6 ≤ n) × (n ≤ 7)
       go _ permits _ permits q = clash (cc)
-      go _ permits _ (faults k h) q = clash (cc)
+      go _ permits _ (faults g p h) q = clash (cc)
       go _ permits _ (refuses m h) q = let g : m ≡ n = cc in omega arith
-      go _ (faults k h) b _ q = clash (cc)
+      go _ (faults g p h) b _ q = clash (cc)
       go _ (refuses m h) b _ q = let g : m ≡ n = cc in omega arith
 
   pub refusal-number : (n : ℕ) → levelRefusal s l allOpen f ≡ check.Refused n → (6 ≤ n) × (n ≤ 7)

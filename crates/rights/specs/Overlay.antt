@@ -21,9 +21,9 @@ use Rattle.rights.specs.declared.answers.Kind.the-variants.{Overlay}
 abbrev pub slotRights : ℕ → LevelRights
 slotRights v = three (bit v 0) (bit v 2) (bit v 1)
 
--- where overlays are on and apply: slots 8 to 15 are reserved, 6; a right that the slot lacks is an Overlay fault
+-- where overlays are on and apply: slots 8 to 15 are reserved, 6; a right that the slot lacks is an Overlay fault, cause 8
 abbrev pub slotAnswer : Bool → ℕ → Right → Answer
-slotAnswer on v r = cond on (follow (refuseIf (leb 8 v) 6) (faultUnless (hasRight (slotRights v) r) 1 Overlay)) Permitted
+slotAnswer on v r = cond on (follow (refuseIf (leb 8 v) 6) (faultUnless (hasRight (slotRights v) r) 1 Overlay 8)) Permitted
 
 -- the overlay: on for the access's level, and applying to the base rights of that level; the slot at POIndex in that level's POR
 abbrev pub overlayAnswer : Setup → Stage1 → LevelBits → Access → Answer

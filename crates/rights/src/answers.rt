@@ -13,6 +13,8 @@ pub enum Kind {
 pub struct Fault {
     pub stage: u8,
     pub kind: Kind,
+    // What took the right away, by request A1's number: 1 to 14.
+    pub cause: u8,
 }
 
 // Permitted so far, a fault, or a refusal's number.
@@ -23,13 +25,13 @@ pub enum Answer {
 }
 
 // Every fault is made here.
-pub(crate) fn fault_unless(ok: bool, stage: u8, kind: Kind) -> Answer
-    ensures { λ r. ⌜ r ≡ faultUnless ok stage kind ⌝ }
+pub(crate) fn fault_unless(ok: bool, stage: u8, kind: Kind, cause: u8) -> Answer
+    ensures { λ r. ⌜ r ≡ faultUnless ok stage kind cause ⌝ }
 {
     if ok {
         return Answer::Permitted;
     }
-    Answer::Fault(Fault { stage, kind })
+    Answer::Fault(Fault { stage, kind, cause })
 }
 
 pub(crate) fn refuse_if(bad: bool, number: u8) -> Answer
@@ -51,17 +53,24 @@ pub(crate) fn answer_of(c: Check) -> Answer
     }
 }
 
-// The first steps of a stage.
-pub(crate) fn descriptor_answer(stage: u8, valid: bool, af: bool, dirty: bool) -> Answer
-    ensures { λ x. ⌜ x ≡ descriptorAnswer stage valid af dirty ⌝ }
+// The first steps of a stage, with the causes of its Translation fault and its Access flag fault.
+pub(crate) fn descriptor_answer(
+    stage: u8,
+    translation: u8,
+    flag: u8,
+    valid: bool,
+    af: bool,
+    dirty: bool,
+) -> Answer
+    ensures { λ x. ⌜ x ≡ descriptorAnswer stage translation flag valid af dirty ⌝ }
 {
-    let translation = fault_unless(valid, stage, Kind::Translation);
-    let Answer::Permitted = translation else {
-        return translation;
+    let first = fault_unless(valid, stage, Kind::Translation, translation);
+    let Answer::Permitted = first else {
+        return first;
     };
-    let flag = fault_unless(af, stage, Kind::AccessFlag);
-    let Answer::Permitted = flag else {
-        return flag;
+    let second = fault_unless(af, stage, Kind::AccessFlag, flag);
+    let Answer::Permitted = second else {
+        return second;
     };
     refuse_if(dirty, 7)
 }

@@ -13,3 +13,4 @@ pub mod pass;
 pub mod promise;
 mod stage1;
 mod stage2;
+mod steps;

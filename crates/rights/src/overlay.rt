@@ -35,7 +35,7 @@ fn slot_answer(on: bool, v: u8, r: Right) -> Answer
         let Answer::Permitted = slot else {
             return slot;
         };
-        return fault_unless(has_right(slot_rights(v), r), 1, Kind::Overlay);
+        return fault_unless(has_right(slot_rights(v), r), 1, Kind::Overlay, 8);
     }
     Answer::Permitted
 }

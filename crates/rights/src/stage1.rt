@@ -1,6 +1,6 @@
 // Stage 1 of one access, step by step: the first fault or refusal is the answer.
 ghost use mathlib.Core.Path.{_≡_};
-ghost use Rattle.rights.specs.Stage1.{dirty, reservedBase, unjudgedBase, baseRights, overlaysApply, baseAnswer, stage1Answer};
+ghost use Rattle.rights.specs.Stage1.{dirty, reservedBase, unjudgedBase, baseCause, overlaysApply, baseAnswer, stage1Answer};
 use crate::answers::Answer;
 use crate::answers::Kind;
 use crate::answers::descriptor_answer;
@@ -9,8 +9,6 @@ use crate::answers::refuse_if;
 use crate::indirect::codes_at;
 use crate::overlay::overlay_answer;
 use records::access::Access;
-use records::access::Rights;
-use records::access::has;
 use records::descriptor::Limits;
 use records::descriptor::Stage1;
 use records::setup::Control;
@@ -44,17 +42,18 @@ fn unjudged_base(s: Setup, d: Stage1) -> bool
     s.control.indirect & crate::indirect::unjudged_code(s.control.two, codes_at(pir, i))
 }
 
-// The base rights: by Direct or Indirect permissions.
-fn base_rights(s: Setup, d: Stage1, t: Limits) -> Rights
-    ensures { λ x. ⌜ x ≡ baseRights s d t ⌝ }
+// The first remover of a base right, 0 if it is there: the base code under Indirect, else by the steps of Direct.
+fn base_cause(s: Setup, d: Stage1, t: Limits, a: Access) -> u8
+    ensures { λ x. ⌜ x ≡ baseCause s d t a ⌝ }
 {
     if s.control.indirect {
         let pir = s.pir;
         let i = d.piindex;
-        return crate::indirect::code_rights(s.control.two, codes_at(pir, i));
+        let rights = crate::indirect::code_rights(s.control.two, codes_at(pir, i));
+        return crate::steps::remover(rights, a, 1, 0);
     }
     let c = s.control;
-    crate::direct::direct_rights(c, d, t)
+    crate::direct::direct_cause(c, d, t, a)
 }
 
 // Where overlays apply to the base rights.
@@ -84,7 +83,8 @@ fn base_answer(s: Setup, d: Stage1, t: Limits, a: Access) -> Answer
     let Answer::Permitted = unjudged else {
         return unjudged;
     };
-    let permit = fault_unless(has(base_rights(s, d, t), a), 1, Kind::Permission);
+    let cause = base_cause(s, d, t, a);
+    let permit = fault_unless(cause == 0, 1, Kind::Permission, cause);
     let Answer::Permitted = permit else {
         return permit;
     };
@@ -96,7 +96,7 @@ pub(crate) fn stage1_answer(s: Setup, d: Stage1, t: Limits, a: Access) -> Answer
     ensures { λ x. ⌜ x ≡ stage1Answer s d t a ⌝ }
 {
     let c = s.control;
-    let first = descriptor_answer(1, d.valid, d.af, dirty_state(c, d));
+    let first = descriptor_answer(1, 11, 12, d.valid, d.af, dirty_state(c, d));
     let Answer::Permitted = first else {
         return first;
     };

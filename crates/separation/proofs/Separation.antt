@@ -3,14 +3,13 @@ use Rattle.records.proofs.Cases.{clash, upto, at}
 use mathlib.Core.Path.{_≡_, refl, sym, ap, _∙_}
 use mathlib.Core.Bool.{Bool, true, false, cond, _&&_}
 use mathlib.Core.List.{List}
-use mathlib.Core.Logic.{_⊎_, inl, inr}
 use Prim.Native.Nat.{ℕ, _/_, _%_, _^_, _<_}
 use native.Mathlib.Omega.{arith}
 use lib.Bits.{bitAnd, and-shr, and-mod}
 use lib.Dec.{eqb}
 use lib.ListN.{length, getD}
 use borrow.Author.Tests.{eqb-true}
-use Rattle.records.proofs.Extension.{AllPass, FirstAt, decided}
+use Rattle.records.proofs.CheckLaws.{Ways, refused-before, refused-at, none-refused, ways}
 use Rattle.records.specs.Access.{accessAt, accessNumber}
 use Rattle.records.specs.Bits.{bit}
 use Rattle.records.specs.Leaf.{leafAt, leafCount}
@@ -66,24 +65,20 @@ by-stages s f n e =
     ∙ both (stage1 s f n) (stage2 s f n) ∙ allowed (isJudged (s .control .two) n) (permitted (stage1 s f n) && permitted (stage2 s f n)) e
 
 -- a list that is done has a bit for each access of its leaves: its demands leave it no refusal
-module _ (b ls o : List ℕ) (m : ℕ) (d : listOf b ls o .answer ≡ Done m) where
+module _ (b ls o c : List ℕ) (m : ℕ) (d : listOf b ls o c .answer ≡ Done m) where
   abbrev R : ℕ → Check
   R j = leafRefusal (setupOf b) (leafAt ls j)
 
-  demands : ListDemands b ls o (listOf b ls o .answer) (listOf b ls o .out)
-  demands = list-met b ls o (listOf b ls o .answer) (listOf b ls o .out) (refl, refl)
+  demands : ListDemands b ls o c (listOf b ls o c .answer) (listOf b ls o c .out) (listOf b ls o c .causes)
+  demands = list-met b ls o c (listOf b ls o c .answer) (listOf b ls o c .out) (listOf b ls o c .causes) (refl, refl, refl)
 
-  done-bits : (i a : ℕ) → i < leafCount ls → bit (getD (listOf b ls o .out) i 0) a ≡ rightsBit (setupOf b) (leafAt ls i) a
-  done-bits i a h = start (startRefusal b ls o) refl
+  done-bits : (i a : ℕ) → i < leafCount ls → bit (getD (listOf b ls o c .out) i 0) a ≡ rightsBit (setupOf b) (leafAt ls i) a
+  done-bits i a h = go (ways (startRefusal b ls o c) R (leafCount ls))
     where
-      leaves : startRefusal b ls o ≡ check.Passes → AllPass R (leafCount ls) ⊎ ((k : ℕ) × (j : ℕ) × FirstAt R (leafCount ls) k j)
-          → bit (getD (listOf b ls o .out) i 0) a ≡ rightsBit (setupOf b) (leafAt ls i) a
-      leaves e (inl p) = demands .done e p .1 i a h
-      leaves e (inr (k, j, f)) = let z = demands .at-leaf e k j (f .within) (f .before) (f .refuses) in clash (cc)
-
-      start : (x : Check) → startRefusal b ls o ≡ x → bit (getD (listOf b ls o .out) i 0) a ≡ rightsBit (setupOf b) (leafAt ls i) a
-      start check.Passes e = leaves e (decided R (leafCount ls))
-      start (check.Refused k) e = let z = demands .before k e in clash (cc)
+      go : Ways (startRefusal b ls o c) R (leafCount ls) → bit (getD (listOf b ls o c .out) i 0) a ≡ rightsBit (setupOf b) (leafAt ls i) a
+      go (refused-before k e) = let z = demands .before k e in clash (cc)
+      go (refused-at k j e f) = let z = demands .at-leaf e k j (f .within) (f .before) (f .refuses) in clash (cc)
+      go (none-refused e p) = demands .done e p .1 i a h
 
 -- bytes that are read as a setup are 52, and the setup is theirs
 is-read : (b : List ℕ) (s : Setup) → readSetup b ≡ setup.Read s → (length b ≡ 52) × (s ≡ setupOf b)
@@ -94,14 +89,14 @@ is-read b s = go (eqb (length b) 52) refl
     go true q e = (eqb-true _ _ q, cc)
     go false q e = clash (cc)
 
-pub separated : (b : List ℕ) (lv : ℕ) (ls o : List ℕ) → Separated b lv ls o
-separated b lv ls o s l r m A e d i x h =
+pub separated : (b : List ℕ) (lv : ℕ) (ls o c : List ℕ) → Separated b lv ls o c
+separated b lv ls o c s l r m A e d i x h =
     let g = demand3 b lv ls (planOf b lv ls) refl s l A .largest r e in
     let w = is-read b s (A .read) in
     let q : readSetup (withPor b l r) ≡ setup.Read (put s l r) = rw (w .1) (put-read b l r (w .0) (g .usable .word)) in
     let n = accessNumber l x in
-    let p = listOf (withPor b l r) ls o .out in
-    let bits = rw (sym (is-read (withPor b l r) (put s l r) q .1)) at (done-bits (withPor b l r) ls o m d i n h) in
+    let p = listOf (withPor b l r) ls o c .out in
+    let bits = rw (sym (is-read (withPor b l r) (put s l r) q .1)) at (done-bits (withPor b l r) ls o c m d i n h) in
     joined (getD p i 0) (leafAt ls i .forbidden) n
     ∙ off (bit (getD p i 0) n) (bit (leafAt ls i .forbidden) n)
     (λ on forbids. g .separates i h x forbids (rw (access-number l x) at (by-stages (put s l r) (leafAt ls i) n (sym bits ∙ on))))

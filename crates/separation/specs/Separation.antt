@@ -37,7 +37,7 @@ Stopped l ls p =
 
 -- for every setup s of the bytes b and level l that are accepted with these leaves: where the planner answers a register r, a list under the
 -- setup with r in place of that level's POR that is not refused stops every forbidden access of that level
-abbrev pub Separated : List ℕ → ℕ → List ℕ → List ℕ → Type 0
-Separated b lv ls o =
+abbrev pub Separated : List ℕ → ℕ → List ℕ → List ℕ → List ℕ → Type 0
+Separated b lv ls o c =
     (s : Setup) (l : Level) (r m : ℕ) → Accepted b lv ls s l → planOf b lv ls ≡ Register r
-    → listOf (withPor b l r) ls o .answer ≡ Done m → Stopped l ls (listOf (withPor b l r) ls o .out)
+    → listOf (withPor b l r) ls o c .answer ≡ Done m → Stopped l ls (listOf (withPor b l r) ls o c .out)

@@ -33,8 +33,8 @@ plan-fits (planned.Refused k i) (plan.refusal _ _ (inl e)) = (omega arith, omega
 plan-fits (planned.Refused k i) (plan.refusal _ _ (inr h)) = (omega arith, omega arith, omega arith)
 
 -- an answer that is the list's, and one that is the planner's, can be packed
-pub list-fit : (b ls o : List ℕ) (x y : Listed) → x ≡ listOf b ls o .answer → x ≡ y → Fit (listValues y)
-list-fit b ls o x y e f = list-fits y (rw (← f, e) (list.within b ls o))
+pub list-fit : (b ls o c : List ℕ) (x y : Listed) → x ≡ listOf b ls o c .answer → x ≡ y → Fit (listValues y)
+list-fit b ls o c x y e f = list-fits y (rw (← f, e) (list.within b ls o c))
 
 pub plan-fit : (b : List ℕ) (lv : ℕ) (ls : List ℕ) (x y : Plan) → x ≡ planOf b lv ls → x ≡ y → Fit (planValues y)
 plan-fit b lv ls x y e f = plan-fits y (rw (← f, e) (plan.within b lv ls))
@@ -47,22 +47,23 @@ list-fields : (y : Listed) (w : ℕ) → Packs w (listValues y .number) (listVal
 list-fields (listed.Done n) w q = rw (q .1 .0, q .1 .1, q .1 .2)
 list-fields (listed.Refused k i) w q = rw (q .1 .0, q .1 .1, q .1 .2)
 
--- the answer x of the list, which is y and leaves the output p, packed as w
-pub list-exported : (b ls o p : List ℕ) (w : ℕ) (x y : Listed) → x ≡ y
-    → (x ≡ listOf b ls o .answer) × ((p ≡ listOf b ls o .out) × ListDemands b ls o x p)
+-- the answer x of the list, which is y and leaves the output p and the causes t, packed as w
+pub list-exported : (b ls o c p t : List ℕ) (w : ℕ) (x y : Listed) → x ≡ y
+    → (x ≡ listOf b ls o c .answer) × ((p ≡ listOf b ls o c .out) × ((t ≡ listOf b ls o c .causes) × ListDemands b ls o c x p t))
     → Packs w (listValues y .number) (listValues y .leaf) (listValues y .count)
-    → (w ≡ packList (listValues (listOf b ls o .answer)))
-    × ((p ≡ listOf b ls o .out)
-    × (((z : Listed) × (listFields w ≡ listValues z) × ListDemands b ls o z p) × (0 < listFields w .number → p ≡ o)))
-list-exported b ls o p w x y f e q = (
+    → (w ≡ packList (listValues (listOf b ls o c .answer)))
+    × ((p ≡ listOf b ls o c .out)
+    × ((t ≡ listOf b ls o c .causes)
+    × (((z : Listed) × (listFields w ≡ listValues z) × ListDemands b ls o c z p t) × (0 < listFields w .number → (p ≡ o) × (t ≡ c)))))
+list-exported b ls o c p t w x y f e q = (
   q .0 ∙ ap (λ (z : Listed). packList (listValues z)) (sym f ∙ e .0),
-  (e .1 .0, ((x, list-fields y w q ∙ ap listValues (sym f), e .1 .1), kept y f (q .1 .0))),
+  (e .1 .0, (e .1 .1 .0, ((x, list-fields y w q ∙ ap listValues (sym f), e .1 .1 .1), kept y f (q .1 .0)))),
 )
   where
     -- a packed answer with a number is a refusal
-    kept : (z : Listed) → x ≡ z → field w 0 8 ≡ listValues z .number → 0 < field w 0 8 → p ≡ o
+    kept : (z : Listed) → x ≡ z → field w 0 8 ≡ listValues z .number → 0 < field w 0 8 → (p ≡ o) × (t ≡ c)
     kept (listed.Done n) g a h = absurd (omega (arith, a, h))
-    kept (listed.Refused k i) g a h = e .1 .1 .kept k i g
+    kept (listed.Refused k i) g a h = e .1 .1 .1 .kept k i g
 
 plan-fields : (y : Plan) (w : ℕ) → Packs w (planValues y .number) (planValues y .leaf) (planValues y .register) → planFields w ≡ planValues y
 plan-fields (planned.Register r) w q = rw (q .1 .0, q .1 .1, q .1 .2)

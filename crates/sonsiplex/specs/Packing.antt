@@ -4,10 +4,10 @@ use Prim.Native.Nat.{ℕ, _+_, _*_, _^_}
 use Rattle.records.specs.Bits.{field}
 use Rattle.records.specs.Values.{Values}
 
--- The judge: stage in bits 15:8, kind in 23:16, byte in 31:24, SH in 39:32. Bits 47:40 are kept for a fault's cause, 48 and 49 for the tagged
--- and XS marks: they are 0, as all above them are
+-- The judge: stage in bits 15:8, kind in 23:16, byte in 31:24, SH in 39:32, cause in 47:40. Bits 48 and 49 are kept for the tagged and XS marks: they are
+-- 0, as all above them are
 abbrev pub packJudgement : Values → ℕ
-packJudgement v = v .number + 2 ^ 8 * v .stage + 2 ^ 16 * v .kind + 2 ^ 24 * v .byte + 2 ^ 32 * v .sh
+packJudgement v = v .number + 2 ^ 8 * v .stage + 2 ^ 16 * v .kind + 2 ^ 24 * v .byte + 2 ^ 32 * v .sh + 2 ^ 40 * v .cause
 
 abbrev pub judgementFields : ℕ → Values
 judgementFields w = record {
@@ -15,6 +15,7 @@ judgementFields w = record {
   leaf = 0;
   stage = field w 8 8;
   kind = field w 16 8;
+  cause = field w 40 8;
   byte = field w 24 8;
   sh = field w 32 8;
   rights = 0;
@@ -26,7 +27,7 @@ judgementFields w = record {
 abbrev pub packNumbers : ℕ → ℕ → ℕ → ℕ
 packNumbers number leaf value = number + 2 ^ 16 * leaf + 2 ^ 32 * value
 
--- the list's value is the number of leaves written
+-- the list's value is the number of leaves whose rights and causes were written
 abbrev pub packList : Values → ℕ
 packList v = packNumbers (v .number) (v .leaf) (v .count)
 
@@ -36,6 +37,7 @@ listFields w = record {
   leaf = field w 16 16;
   stage = 0;
   kind = 0;
+  cause = 0;
   byte = 0;
   sh = 0;
   rights = 0;
@@ -53,6 +55,7 @@ planFields w = record {
   leaf = field w 16 16;
   stage = 0;
   kind = 0;
+  cause = 0;
   byte = 0;
   sh = 0;
   rights = 0;

@@ -28,15 +28,22 @@ pub extern "C" fn sonsiplex_judge(setup: &[u8], leaf: &[u8], access: u64) -> u64
     pack_judgement(judge::access::judge_access(setup, leaf, access))
 }
 
-// Writes one rights byte for each leaf of 18 bytes to the start of `out`. A refused call changes no lent byte: `kept`, which is that of ListDemands.
+// Writes one rights byte for each leaf of 18 bytes to the start of `out`, and six bytes, the causes of its accesses, to the start of `causes`. A refused
+// call changes no lent byte: `kept`, which is that of ListDemands.
 #[no_mangle]
-pub extern "C" fn sonsiplex_list(setup: &[u8], leaves: &[u8], out: &mut [u8]) -> u64
-    ensures packed { λ r. ⌜ r ≡ packList (listValues (listOf (now (setup .entry)) (now (leaves .entry)) (now (out .entry)) .answer)) ⌝ }
-    ensures written { λ _. ⌜ now (out .exit) ≡ listOf (now (setup .entry)) (now (leaves .entry)) (now (out .entry)) .out ⌝ }
-    ensures demanded { λ r. ⌜ ((x : Listed) × (listFields r ≡ listValues x) × ListDemands (now (setup .entry)) (now (leaves .entry)) (now (out .entry)) x (now (out .exit))) ⌝ }
-    ensures kept { λ r. ⌜ (0 < listFields r .number → now (out .exit) ≡ now (out .entry)) ⌝ }
+pub extern "C" fn sonsiplex_list(
+    setup: &[u8],
+    leaves: &[u8],
+    out: &mut [u8],
+    causes: &mut [u8],
+) -> u64
+    ensures packed { λ r. ⌜ r ≡ packList (listValues (listOf (now (setup .entry)) (now (leaves .entry)) (now (out .entry)) (now (causes .entry)) .answer)) ⌝ }
+    ensures written { λ _. ⌜ now (out .exit) ≡ listOf (now (setup .entry)) (now (leaves .entry)) (now (out .entry)) (now (causes .entry)) .out ⌝ }
+    ensures caused { λ _. ⌜ now (causes .exit) ≡ listOf (now (setup .entry)) (now (leaves .entry)) (now (out .entry)) (now (causes .entry)) .causes ⌝ }
+    ensures demanded { λ r. ⌜ ((x : Listed) × (listFields r ≡ listValues x) × ListDemands (now (setup .entry)) (now (leaves .entry)) (now (out .entry)) (now (causes .entry)) x (now (out .exit)) (now (causes .exit))) ⌝ }
+    ensures kept { λ r. ⌜ (0 < listFields r .number → (now (out .exit) ≡ now (out .entry)) × (now (causes .exit) ≡ now (causes .entry))) ⌝ }
 {
-    match judge::list::list_rights(setup, leaves, out) {
+    match judge::list::list_rights(setup, leaves, out, causes) {
         Listed::Done(n) => pack_numbers(0, 0, n as u32),
         Listed::Refused { number, leaf } => pack_numbers(number, leaf as u16, 0),
     }

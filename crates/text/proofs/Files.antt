@@ -14,22 +14,21 @@ use Rattle.records.specs.MapFile.{beginsWith, rest, Leaves, leaves, illFormed, 
 use Rattle.records.specs.Bytes.{over}
 use Rattle.records.specs.declared.mapfile.FileRead.{FileRead}
 use Rattle.records.specs.declared.mapfile.FileRead.the-variants as file
-use Rattle.judge.specs.List.{listOf}
 use Rattle.judge.specs.declared.answers.Listed.{Listed}
 use Rattle.judge.specs.declared.answers.Listed.the-variants.{Done, Refused}
 use Rattle.io.specs.Counts.{Counts}
 use Rattle.text.specs.Lines.{refusalLine}
-use Rattle.text.specs.Listing.{mapLines, mapText, textOf, written}
+use Rattle.text.specs.Listing.{mapLines, listed, mapText, textOf, written}
 use Rattle.text.specs.Mirror.Put.{Put}
 
 -- the list's answer x, with the rights rs written
 module _ (b ls : List ℕ) (n : ℕ) (x : Listed) where
-  pub done : (m : ℕ) (rs : List ℕ) → x ≡ listOf b ls (replicate 2048 0) .answer → rs ≡ listOf b ls (replicate 2048 0) .out → x ≡ Done m
+  pub done : (m : ℕ) (rs : List ℕ) → x ≡ listed b ls .answer → rs ≡ listed b ls .out → x ≡ Done m
       → mapText b ls n ≡ mapLines b ls n rs
   unfolding mapText
   done m rs e f g = rw (← f, ← e, g)
 
-  pub refused : (k i : ℕ) → x ≡ listOf b ls (replicate 2048 0) .answer → x ≡ Refused k i → mapText b ls n ≡ refusalLine k i
+  pub refused : (k i : ℕ) → x ≡ listed b ls .answer → x ≡ Refused k i → mapText b ls n ≡ refusalLine k i
   unfolding mapText
   refused k i e g = rw (← e, g)
 

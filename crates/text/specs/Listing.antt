@@ -7,9 +7,9 @@ use lib.ListN.{length, getD, replicate}
 use Rattle.records.specs.MapFile.{Leaves, leaves, illFormed, value, fileOf}
 use Rattle.records.specs.Bytes.{over}
 use Rattle.records.specs.Leaf.{leafAt}
-use Rattle.judge.specs.List.{listOf}
+use Rattle.judge.specs.List.{ListResult, listOf}
 use Rattle.judge.specs.declared.answers.Listed.{Listed}
-use Rattle.judge.specs.declared.answers.Listed.the-variants as listed
+use Rattle.judge.specs.declared.answers.Listed.the-variants as answer
 use Rattle.planner.specs.Plan.{planOf}
 use Rattle.planner.specs.declared.plan.Plan.{Plan}
 use Rattle.planner.specs.declared.plan.Plan.the-variants as plan
@@ -40,12 +40,15 @@ mapLines b ls n rs = lastNumber (ascii "leaves ") n ++ (linesFrom (lineAt rs ls)
 
 -- a refusal of the list prints one line instead
 abbrev pub listLines : List ℕ → List ℕ → ℕ → Listed → List ℕ → List ℕ
-listLines b ls n (listed.Done m) rs = mapLines b ls n rs
-listLines b ls n (listed.Refused k i) rs = refusalLine k i
+listLines b ls n (answer.Done m) rs = mapLines b ls n rs
+listLines b ls n (answer.Refused k i) rs = refusalLine k i
 
--- the list, for which a buffer of 2,048 zeros is lent
+-- the list, for which buffers of zeros are lent, 2,048 for the rights and six times as many for the causes, which no line shows
+abbrev pub listed : List ℕ → List ℕ → ListResult
+listed b ls = listOf b ls (replicate 2048 0) (replicate 12288 0)
+
 unfoldable pub mapText : List ℕ → List ℕ → ℕ → List ℕ
-mapText b ls n = listLines b ls n (listOf b ls (replicate 2048 0) .answer) (listOf b ls (replicate 2048 0) .out)
+mapText b ls n = listLines b ls n (listed b ls .answer) (listed b ls .out)
 
 -- a file refusal prints `refused 13`; else the setup is the first field, and the count that of the leaf fields
 abbrev pub fileText : List ℕ → Leaves → List ℕ

@@ -95,7 +95,8 @@ fn put_list(out: &mut [u8], setup: &[u8], leaves: &[u8], n: usize) -> usize
     ensures { λ r. ⌜ Put (now (out .entry)) 0 (mapText (now (setup .entry)) (now (leaves .entry)) n) (now (out .exit)) r ⌝ }
 {
     let mut rights = [0u8; 2048];
-    match judge::list::list_rights(setup, leaves, &mut rights) {
+    let mut causes = [0u8; 12288];
+    match judge::list::list_rights(setup, leaves, &mut rights, &mut causes) {
         Listed::Done(_) => put_map(out, setup, leaves, n, &rights),
         Listed::Refused { number, leaf } => put_refusal(out, 0, number, leaf),
     }

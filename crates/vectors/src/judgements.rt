@@ -11,10 +11,10 @@ use rights::answers::Kind;
 
 fn print_kind(k: Kind) {
     match k {
-        Kind::Translation => text(b" T\n"),
-        Kind::AccessFlag => text(b" A\n"),
-        Kind::Permission => text(b" P\n"),
-        Kind::Overlay => text(b" O\n"),
+        Kind::Translation => text(b" T"),
+        Kind::AccessFlag => text(b" A"),
+        Kind::Permission => text(b" P"),
+        Kind::Overlay => text(b" O"),
     }
 }
 
@@ -22,6 +22,7 @@ fn print_fault(f: Fault) {
     form(b" fault #", &[f.stage as u64]);
     let k = f.kind;
     print_kind(k);
+    form(b" cause #\n", &[f.cause as u64]);
 }
 
 fn print_verdict(j: Judgement) {

@@ -10,7 +10,7 @@
 // 5 reads an access number: the number.
 // 6 reads document 01's example as a map file: the file's length, the room for leaves, an index and the byte to put there (2B is at 3).
 // 7 judges an access: a setup, the access, a leaf.
-// 8 lists rights: a setup, the list's length, the output's, an index (output bytes 0, that one and the next are printed), two leaves.
+// 8 lists rights: a setup, the list's length, the output's, an index (output bytes 0, that one and the next are printed), two leaves, the length of the causes.
 // 9 plans a level: a setup, the list's length, the level, two leaves.
 // What of a list lies past its two leaves is zeros.
 use crate::table::Case;

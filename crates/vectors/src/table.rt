@@ -1,6 +1,6 @@
 // The numbers of a case, and records made of them.
 
-pub(crate) type Case = [u64; 20];
+pub(crate) type Case = [u64; 21];
 
 // As long as a map file with 2,049 leaves.
 pub(crate) type Buffer = [u8; 43084];
@@ -58,14 +58,14 @@ fn longer(v: u64, c: u8) -> u64 {
 
 // Puts a digit at the end of number `j`, where there is one.
 fn put_digit(w: &mut Case, j: usize, c: u8) {
-    if j < 20 {
+    if j < 21 {
         w[j] = longer(w[j], c);
     }
 }
 
-// The first 20 numbers of a line; where it has fewer, 0 for the others.
+// The first 21 numbers of a line; where it has fewer, 0 for the others.
 pub(crate) fn words(t: &[u8]) -> Case {
-    let mut w = [0u64; 20];
+    let mut w = [0u64; 21];
     let mut j: usize = 0;
     let mut i: usize = 0;
     while i < t.len() {

@@ -1,4 +1,5 @@
-//! Compares the proved list and planner with the reference on lists of 2,048 leaves.
+//! Compares the proved list and planner with the reference on lists of 2,048 leaves. A list gives
+//! rights and causes.
 //!
 //! `bench` prints the time of each per leaf and their ratio. `bench --count FUNCTION SIDE MODE
 //! CALLS` makes that many calls and prints nothing but the answer, for a tool that counts

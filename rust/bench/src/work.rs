@@ -1,8 +1,13 @@
 //! What is timed: a setup and 2,048 leaves of one mode, and the functions of both sides on them.
 
 use numbers::Numbers;
-use reference::{control::*, register, LEAF_BYTES, MOST_LEAVES, SETUP_BYTES};
+use reference::{control::*, register, CAUSE_BYTES, LEAF_BYTES, MOST_LEAVES, SETUP_BYTES};
 use std::hint::black_box;
+
+/// Rights of the leaves, and their causes.
+pub(crate) type Buffers = ([u8; MOST_LEAVES], [u8; CAUSE_BYTES * MOST_LEAVES]);
+
+const EMPTY: Buffers = ([0; MOST_LEAVES], [0; CAUSE_BYTES * MOST_LEAVES]);
 
 /// A way to set up the release.
 #[derive(Clone, Copy, Debug, PartialEq, Eq)]
@@ -84,28 +89,31 @@ impl Work {
         }
     }
 
-    /// The rights of the list by one side.
-    pub(crate) fn rights(&self, side: Side) -> [u8; MOST_LEAVES] {
-        let mut out = [0; MOST_LEAVES];
-        self.list_once(side, &mut out);
-        out
+    /// The rights and causes of the list by one side.
+    pub(crate) fn rights(&self, side: Side) -> Buffers {
+        let mut buffers = EMPTY;
+        self.list_once(side, &mut buffers);
+        buffers
     }
 
     fn list(&self, side: Side, calls: u32) -> u64 {
-        let mut out = [0; MOST_LEAVES];
+        let mut buffers = EMPTY;
         let mut last = 0;
         for _ in 0..calls {
-            last = self.list_once(side, black_box(&mut out));
+            last = self.list_once(side, black_box(&mut buffers));
         }
         black_box(last) as u64
     }
 
     #[inline(always)]
-    fn list_once(&self, side: Side, out: &mut [u8]) -> usize {
+    fn list_once(&self, side: Side, (out, causes): &mut Buffers) -> usize {
         let (setup, leaves) = (black_box(&self.setup), black_box(&self.leaves));
         match side {
-            Side::Proved => sonsiplex::list(setup, leaves, out).expect("not refused"),
-            Side::Reference => reference::list(setup, leaves, out).expect("not refused"),
+            Side::Proved => {
+                let listed = sonsiplex::list(setup, leaves, out, causes);
+                listed.expect("not refused").len()
+            }
+            Side::Reference => reference::list(setup, leaves, out, causes).expect("not refused"),
         }
     }
 
@@ -124,7 +132,7 @@ impl Work {
 }
 
 fn passes(setup: &[u8; SETUP_BYTES], leaf: &[u8; LEAF_BYTES]) -> bool {
-    let listed = reference::list(setup, leaf, &mut [0]).is_ok();
+    let listed = reference::list(setup, leaf, &mut [0], &mut [0; CAUSE_BYTES]).is_ok();
     let separable = |level| match reference::plan(setup, level, leaf) {
         Ok(_) => true,
         Err(refusal) => refusal.number == 12,

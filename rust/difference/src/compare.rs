@@ -2,8 +2,9 @@
 //!
 //! Each function fails with the input in hex where they differ, and gives the common answer.
 
-use reference::{Memory, Refusal, Stop};
-use sonsiplex::{packed, Judgement};
+use crate::lent::Lent;
+use reference::{LeafRights, Memory, Refusal, Stop, CAUSE_BYTES, LEAF_BYTES};
+use sonsiplex::{packed, Access, Judgement, Listed};
 
 /// Compares both judges.
 pub fn judge(setup: &[u8], leaf: &[u8], access: u64) -> Result<Memory, Stop> {
@@ -17,29 +18,62 @@ pub fn judge(setup: &[u8], leaf: &[u8], access: u64) -> Result<Memory, Stop> {
     answer
 }
 
-/// Compares both lists. `buffer` is the output with `margin` bytes before and after it; what the
-/// calls leave of all of it is compared. Gives the answer and the buffer.
+/// Compares both lists on the lent buffers; what the calls leave of both, with their margins, is
+/// compared. Gives what the list found of each leaf.
 pub fn list(
     setup: &[u8],
     leaves: &[u8],
-    buffer: &[u8],
-    margin: usize,
-) -> (Result<usize, Refusal>, Vec<u8>) {
-    let place = margin..buffer.len() - margin;
-    let (mut expected, mut left) = (buffer.to_vec(), buffer.to_vec());
-    let answer = reference::list(setup, leaves, &mut expected[place.clone()]);
-    let written = answer.unwrap_or(0);
-    assert_eq!(expected[margin + written..], buffer[margin + written..]);
-    let found = packed::list(setup, leaves, &mut left[place]);
+    out: &Lent,
+    causes: &Lent,
+) -> Result<Vec<LeafRights>, Refusal> {
+    let (mut out_expected, mut causes_expected) = (out.clone(), causes.clone());
+    let answer = reference::list(setup, leaves, out_expected.lend(), causes_expected.lend());
+    let count = answer.unwrap_or(0);
+    assert!(out_expected.kept(out, count));
+    assert!(causes_expected.kept(causes, CAUSE_BYTES * count));
+    let (mut out_left, mut causes_left) = (out.clone(), causes.clone());
+    let found = packed::list(setup, leaves, out_left.lend(), causes_left.lend());
     assert!(
-        found == packed_list(answer) && left == expected,
-        "library {found:#018x}, reference {answer:?}\n{}\nbuffer {}\nexpected {}",
+        found == packed_list(answer) && out_left == out_expected && causes_left == causes_expected,
+        "library {found:#018x}, reference {answer:?}\n{}\n\
+         output {}\nexpected {}\ncauses {}\nexpected {}",
         words(setup, leaves),
-        hex(&left),
-        hex(&expected),
+        hex(out_left.bytes()),
+        hex(out_expected.bytes()),
+        hex(causes_left.bytes()),
+        hex(causes_expected.bytes()),
     );
-    assert!(same_refusal(packed::unpack_list(found), answer));
-    (answer, left)
+    let wrapped = packed::unpack_list(found, out_left.content(), causes_left.content());
+    let count = wrapped.map(|listed| listed.len());
+    assert!(same_refusal(count, answer));
+    answer?;
+    let listed = wrapped.expect("neither is refused");
+    let found = leaf_rights(
+        out_expected.content(),
+        causes_expected.content(),
+        listed.len(),
+    );
+    assert!(same_leaves(listed, &found), "{}", words(setup, leaves));
+    Ok(found)
+}
+
+/// Compares both lists on buffers that are just long enough for whole leaves.
+pub fn list_exactly(setup: &[u8], leaves: &[u8]) -> Result<Vec<LeafRights>, Refusal> {
+    let count = leaves.len() / LEAF_BYTES;
+    let out = Lent::filled(0xA5, count);
+    list(
+        setup,
+        leaves,
+        &out,
+        &Lent::filled(0xA5, CAUSE_BYTES * count),
+    )
+}
+
+/// The first leaves that the buffers hold.
+fn leaf_rights(out: &[u8], causes: &[u8], count: usize) -> Vec<LeafRights> {
+    let (causes, _) = causes.as_chunks();
+    let leaf = |(&rights, &causes)| LeafRights { rights, causes };
+    out[..count].iter().zip(causes).map(leaf).collect()
 }
 
 /// Compares both planners.
@@ -69,14 +103,28 @@ fn same(wrapped: Result<Judgement, sonsiplex::Refusal>, answer: Result<Memory, S
         (Ok(Judgement::Allowed(found)), Ok(memory)) => {
             (found.byte, found.shareability as u8) == (memory.byte, memory.shareability)
         }
-        (Ok(Judgement::Fault(found)), Err(Stop::Fault(stage, kind))) => {
-            (found.stage as u8, found.kind as u8) == (stage, kind as u8)
+        (Ok(Judgement::Fault(found)), Err(Stop::Fault(fault))) => {
+            let stage_and_kind = (found.stage as u8, found.kind as u8);
+            stage_and_kind == (fault.stage, fault.kind as u8)
+                && found.cause as u8 == fault.cause as u8
         }
         (Err(found), Err(Stop::Refused(number))) => {
             (found.number as u8, found.leaf) == (number, None)
         }
         _ => false,
     }
+}
+
+/// Whether the wrapper's leaves have the reference's values.
+fn same_leaves(listed: Listed<'_>, expected: &[LeafRights]) -> bool {
+    let same = |(found, expected): (sonsiplex::ListedLeaf, &LeafRights)| {
+        Access::ALL.into_iter().all(|access| {
+            let place = access as usize;
+            found.allows(access) == (expected.rights >> place & 1 == 1)
+                && found.cause(access).map_or(0, |cause| cause as u8) == expected.causes[place]
+        })
+    };
+    listed.len() == expected.len() && listed.iter().zip(expected).all(same)
 }
 
 /// Whether the wrapper's answer to a list or a plan has the reference's values.
@@ -97,7 +145,10 @@ fn same_refusal<T: PartialEq>(
 fn packed_judge(answer: Result<Memory, Stop>) -> u64 {
     match answer {
         Ok(memory) => u64::from(memory.byte) << 24 | u64::from(memory.shareability) << 32,
-        Err(Stop::Fault(stage, kind)) => u64::from(stage) << 8 | (kind as u64) << 16,
+        Err(Stop::Fault(fault)) => {
+            let cause = (fault.cause as u64) << 40;
+            u64::from(fault.stage) << 8 | (fault.kind as u64) << 16 | cause
+        }
         Err(Stop::Refused(number)) => u64::from(number),
     }
 }

@@ -2,7 +2,7 @@
 //! share of random bits.
 
 use numbers::Numbers;
-use reference::{control::*, register, rights, LEAF_BYTES, SETUP_BYTES};
+use reference::{control::*, leaf_rights, register, LEAF_BYTES, SETUP_BYTES};
 
 /// The bytes of a setup.
 pub type Setup = [u8; SETUP_BYTES];
@@ -210,7 +210,7 @@ fn plausible(numbers: &mut Numbers, dirty: u64) -> u64 {
 
 /// A leaf that an accepted setup does not refuse.
 pub fn passing_leaf(numbers: &mut Numbers, setup: &Setup) -> Leaf {
-    passing(numbers, setup, |leaf| rights(setup, leaf).is_ok())
+    passing(numbers, setup, |leaf| leaf_rights(setup, leaf).is_ok())
 }
 
 /// A leaf that passes a test, or an invalid one if none is found soon.

@@ -1,10 +1,13 @@
-//! What the differential tests share: inputs, classes of answers, and a planner by brute force.
+//! What the differential tests share: inputs, classes of answers, causes, and a planner by brute
+//! force.
 //!
 //! `SONSIPLEX_SEED` gives another seed (decimal), `SONSIPLEX_TIMES` multiplies the number of cases.
 
 pub mod brute;
+pub mod causes;
 pub mod compare;
 pub mod generate;
+pub mod lent;
 pub mod tally;
 
 use std::env;

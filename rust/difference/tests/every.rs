@@ -1,8 +1,9 @@
 //! Tables that are small enough to compare whole: memory types, Direct forms, pairs of base codes
-//! with pairs of slots, and control words.
+//! with pairs of slots, control words, and causes. Answers are compared with their causes.
 
+use difference::causes::{accepted, can_have, CAUSES};
 use difference::compare;
-use difference::generate::{leaf, set_register, setup_of, Leaf};
+use difference::generate::{leaf, set_register, setup_of, Leaf, Setup};
 use reference::{control::*, register, MOST_LEAVES};
 
 /// A stage 1 descriptor that Direct grants everything it can: valid, AF, AP 01.
@@ -65,9 +66,7 @@ fn direct_forms() {
             compare::judge(&setup, &leaf, access).ok();
         }
         for list in leaves.chunks(MOST_LEAVES) {
-            compare::list(&setup, list.as_flattened(), &[0; MOST_LEAVES], 0)
-                .0
-                .ok();
+            compare::list_exactly(&setup, list.as_flattened()).ok();
         }
     }
 }
@@ -105,7 +104,7 @@ fn base_codes_and_slots() {
             for access in ACCESSES {
                 compare::judge(&setup, &leaf, access).ok();
             }
-            compare::list(&setup, &leaf, &[0], 0).0.ok();
+            compare::list_exactly(&setup, &leaf).ok();
         }
     }
 }
@@ -139,11 +138,102 @@ fn control_words() {
         for access in 0..8 {
             compare::judge(&setup, &leaf, access).ok();
         }
-        compare::list(&setup, &leaf, &[0], 0).0.ok();
+        compare::list_exactly(&setup, &leaf).ok();
         for level in 0..3 {
             compare::plan(&setup, level, &leaf).ok();
         }
     }
+}
+
+/// Under every accepted choice of the control bits that permissions read, each access meets exactly
+/// the causes that it can have.
+#[test]
+fn causes() {
+    let bits = [
+        TWO_LEVELS,
+        STAGE1,
+        STAGE2,
+        INDIRECT,
+        PRIVILEGED_OVERLAY,
+        UNPRIVILEGED_OVERLAY,
+        WXN,
+        PAN,
+        LIMITS_DISABLED,
+    ];
+    let words = (0..1 << bits.len()).map(|choice| choose(&bits, choice));
+    for control in words.filter(|control| accepted(*control)) {
+        let setup = causes_setup(control);
+        let mut met = [0; CAUSES as usize];
+        for list in causes_leaves(control).chunks(MOST_LEAVES) {
+            let found = compare::list_exactly(&setup, list.as_flattened());
+            let found = found.expect("no leaf is refused");
+            for (access, leaf) in product(ACCESSES, found) {
+                let judged = control & TWO_LEVELS != 0 || access < 3;
+                let cause = usize::from(leaf.causes[access as usize]);
+                met[cause] |= u8::from(judged) << access;
+            }
+            for (leaf, access) in product(list.iter(), ACCESSES) {
+                compare::judge(&setup, leaf, access).ok();
+            }
+        }
+        for cause in 0..CAUSES {
+            let expected = can_have(control, cause);
+            assert_eq!(met[usize::from(cause)], expected, "{control:#x} {cause}");
+        }
+    }
+}
+
+/// Pairs of codes that are not refused, privileged and unprivileged, at PIIndex 0 to 15.
+const CODES: [(u64, u64); 16] = [
+    (0, 0),
+    (3, 3),
+    (5, 5),
+    (7, 1),
+    (1, 7),
+    (2, 2),
+    (8, 8),
+    (10, 10),
+    (12, 12),
+    (14, 9),
+    (9, 14),
+    (5, 12),
+    (3, 10),
+    (0, 7),
+    (7, 3),
+    (12, 5),
+];
+
+/// A setup with [`CODES`] in its PIRs; slot 0 grants nothing and slot 1 everything.
+fn causes_setup(control: u32) -> Setup {
+    let mut setup = setup_of(control);
+    let pirs = CODES.iter().rev().fold((0, 0), |pirs, codes| {
+        (pirs.0 << 4 | codes.0, pirs.1 << 4 | codes.1)
+    });
+    set_register(&mut setup, register::PIR_PRIVILEGED, pirs.0);
+    set_register(&mut setup, register::PIR_UNPRIVILEGED, pirs.1);
+    set_register(&mut setup, register::POR_PRIVILEGED, 0x70);
+    set_register(&mut setup, register::POR_UNPRIVILEGED, 0x70);
+    setup
+}
+
+/// Every permission form of stage 1 with every limits byte, slots 0 and 1, and four forms of stage 2:
+/// not valid, AF clear, granting nothing, granting everything. Then stage 1 not valid and AF clear.
+fn causes_leaves(control: u32) -> Vec<Leaf> {
+    // AP, PXN and UXN, or PIIndex.
+    let places = if control & INDIRECT != 0 {
+        [6, 51, 53, 54]
+    } else {
+        [6, 7, 53, 54]
+    };
+    let stage2 = [0, 1, 0x401 | 2 << 53, STAGE2_OPEN];
+    let usable = product(0..512, stage2).map(|(form, stage2)| {
+        let (limits, slot) = (form >> 4 & 15, form >> 8);
+        let bits = (0..4).map(|bit| (form >> bit & 1) << places[bit]);
+        let stage1 = bits.fold(0x401 | slot << 60, |descriptor, bit| descriptor | bit);
+        leaf(stage1, stage2, limits as u8, 0)
+    });
+    let faults = product([0, 1, 0x400], stage2).map(|(first, second)| leaf(first, second, 0, 0));
+    usable.chain(faults).collect()
 }
 
 /// A register with this code at one index and 15, which is reserved, at all others.

@@ -1,5 +1,6 @@
 //! Single accesses: the library against the reference.
 
+use difference::causes::Met;
 use difference::{compare, generate, seed, tally::Tally, times};
 use numbers::Numbers;
 use reference::{Memory, Stop};
@@ -68,7 +69,7 @@ fn classes() -> Vec<Class> {
 fn class(answer: Result<Memory, Stop>) -> Class {
     match answer {
         Ok(memory) => Class::Allowed(byte(memory.byte), sh(memory.shareability)),
-        Err(Stop::Fault(stage, kind)) => Class::Fault(stage, kind_name(kind)),
+        Err(Stop::Fault(fault)) => Class::Fault(fault.stage, kind_name(fault.kind)),
         Err(Stop::Refused(number)) => Class::Refused(number),
     }
 }
@@ -109,6 +110,15 @@ fn kind_name(kind: reference::Kind) -> &'static str {
     }
 }
 
+/// The number of an answer's cause, 0 where the access is allowed; none in a refusal.
+fn cause(answer: Result<Memory, Stop>) -> Option<u8> {
+    match answer {
+        Ok(_) => Some(0),
+        Err(Stop::Fault(fault)) => Some(fault.cause as u8),
+        Err(Stop::Refused(_)) => None,
+    }
+}
+
 /// An access number that is mostly out of range.
 fn other_access(numbers: &mut Numbers) -> u64 {
     match numbers.below(4) {
@@ -135,12 +145,17 @@ fn compare_lengths(numbers: &mut Numbers, setup: &[u8], leaf: &[u8], tally: &mut
 fn judge() {
     let mut numbers = Numbers::new(seed(1));
     let mut tally = Tally::new("judge", classes());
+    let mut met = Met::new("judge");
     let mut judgements = 0;
     for _ in 0..times(CASES) {
         let setup = generate::any_setup(&mut numbers);
         let leaf = generate::any_leaf(&mut numbers, &setup);
         for access in 0..6 {
-            tally.count(class(compare::judge(&setup, &leaf, access)));
+            let answer = compare::judge(&setup, &leaf, access);
+            tally.count(class(answer));
+            if let Some(cause) = cause(answer) {
+                met.count(generate::control_of(&setup), access as usize, cause);
+            }
         }
         let other = other_access(&mut numbers);
         tally.count(class(compare::judge(&setup, &leaf, other)));
@@ -150,5 +165,6 @@ fn judge() {
             judgements += 2;
         }
     }
+    met.finish();
     tally.finish(&format!("{judgements} judgements, no difference"));
 }

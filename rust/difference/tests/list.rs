@@ -1,18 +1,17 @@
-//! Lists: the library against the reference, and what is left of the output buffer.
+//! Lists: the library against the reference, and what is left of both lent buffers.
 
-use difference::generate::{self, Leaf, Setup};
-use difference::{compare, seed, tally::Tally, times};
+use difference::causes::Met;
+use difference::generate::{self, control_of, Leaf, Setup};
+use difference::{compare, lent::Lent, seed, tally::Tally, times};
 use numbers::Numbers;
-use reference::{Refusal, LEAF_BYTES, MOST_LEAVES, SETUP_BYTES};
+use reference::{Refusal, CAUSE_BYTES, LEAF_BYTES, MOST_LEAVES, SETUP_BYTES};
 
 const LISTS: u64 = 100_000;
-/// Bytes before and after the output that no call may change.
-const MARGIN: usize = 32;
 
 #[derive(Clone, Copy, Debug, PartialEq, Eq, PartialOrd, Ord)]
 enum Class {
     Done(Length),
-    DoneWithOutput(Output),
+    DoneWith(Buffer, Room),
     RefusedLeaf { number: u8, first: bool },
     Refused(u8),
     Refused11For(Eleven),
@@ -29,7 +28,13 @@ enum Length {
 }
 
 #[derive(Clone, Copy, Debug, PartialEq, Eq, PartialOrd, Ord)]
-enum Output {
+enum Buffer {
+    Output,
+    Causes,
+}
+
+#[derive(Clone, Copy, Debug, PartialEq, Eq, PartialOrd, Ord)]
+enum Room {
     Exact,
     Longer,
 }
@@ -39,13 +44,17 @@ enum Eleven {
     NotAMultiple,
     OneLeafTooMany,
     ShortOutput,
+    ShortCauses,
+    ShortOutputAndCauses,
 }
 
 /// Every class that the list's answers have.
 fn classes() -> Vec<Class> {
     use Length::{Empty, Long, Most, One, Short};
     let mut classes: Vec<Class> = [Empty, One, Short, Long, Most].map(Class::Done).into();
-    classes.extend([Output::Exact, Output::Longer].map(Class::DoneWithOutput));
+    for buffer in [Buffer::Output, Buffer::Causes] {
+        classes.extend([Room::Exact, Room::Longer].map(|room| Class::DoneWith(buffer, room)));
+    }
     for number in 5..=9 {
         classes.extend([true, false].map(|first| Class::RefusedLeaf { number, first }));
     }
@@ -54,6 +63,8 @@ fn classes() -> Vec<Class> {
         Eleven::NotAMultiple,
         Eleven::OneLeafTooMany,
         Eleven::ShortOutput,
+        Eleven::ShortCauses,
+        Eleven::ShortOutputAndCauses,
     ];
     classes.extend(elevens.map(Class::Refused11For));
     // Stage 1 never grants px together with uw; with it off, everything is granted.
@@ -77,9 +88,8 @@ fn length(leaves: usize) -> Length {
 struct Case {
     setup: Vec<u8>,
     leaves: Vec<u8>,
-    /// The output buffer between its margins.
-    buffer: Vec<u8>,
-    out: usize,
+    out: Lent,
+    causes: Lent,
 }
 
 /// A list that is done, damaged at one leaf, or of any kind.
@@ -113,39 +123,58 @@ fn case(numbers: &mut Numbers) -> Case {
         setup.resize(generate::wrong_length(numbers, SETUP_BYTES), 0);
     }
     let count = leaves.len() / LEAF_BYTES;
-    let out = match numbers.below(20) {
-        0 => numbers.below(count + 1),
-        1 => count.saturating_sub(1),
-        2..=8 => count + 1 + numbers.below(40),
-        _ => count,
-    };
-    let buffer = (0..out + 2 * MARGIN).map(|_| numbers.next() as u8);
     Case {
         setup,
         leaves,
-        buffer: buffer.collect(),
-        out,
+        out: buffer(numbers, count),
+        causes: buffer(numbers, CAUSE_BYTES * count),
     }
+}
+
+/// A buffer where this many bytes are due: sometimes shorter, sometimes longer.
+fn buffer(numbers: &mut Numbers, due: usize) -> Lent {
+    let length = match numbers.below(20) {
+        0 => numbers.below(due + 1),
+        1 => due.saturating_sub(1),
+        2..=8 => due + 1 + numbers.below(40),
+        _ => due,
+    };
+    Lent::random(numbers, length)
 }
 
 fn count_answer(tally: &mut Tally<Class>, case: &Case, answer: Result<usize, Refusal>) {
     let leaves = case.leaves.len() / LEAF_BYTES;
+    let buffers = [
+        (Buffer::Output, case.out.content().len(), leaves),
+        (
+            Buffer::Causes,
+            case.causes.content().len(),
+            CAUSE_BYTES * leaves,
+        ),
+    ];
     match answer {
         Ok(count) => {
             tally.count(Class::Done(length(count)));
-            let exact = case.out == count;
-            let output = if exact { Output::Exact } else { Output::Longer };
-            tally.count(Class::DoneWithOutput(output));
+            for (buffer, length, due) in buffers {
+                let exact = length == due;
+                let room = if exact { Room::Exact } else { Room::Longer };
+                tally.count(Class::DoneWith(buffer, room));
+            }
         }
         Err(Refusal { number: 11, .. }) => {
             tally.count(Class::Refused(11));
+            let [short_output, short_causes] = buffers.map(|(_, length, due)| length < due);
             tally.count(Class::Refused11For(
                 if !case.leaves.len().is_multiple_of(LEAF_BYTES) {
                     Eleven::NotAMultiple
                 } else if leaves > MOST_LEAVES {
                     Eleven::OneLeafTooMany
-                } else {
+                } else if short_output && short_causes {
+                    Eleven::ShortOutputAndCauses
+                } else if short_output {
                     Eleven::ShortOutput
+                } else {
+                    Eleven::ShortCauses
                 },
             ));
         }
@@ -164,17 +193,24 @@ fn count_answer(tally: &mut Tally<Class>, case: &Case, answer: Result<usize, Ref
 fn list() {
     let mut numbers = Numbers::new(seed(2));
     let mut tally = Tally::new("list", classes());
+    let mut met = Met::new("list");
     let mut leaves = 0;
     for _ in 0..times(LISTS) {
         let case = case(&mut numbers);
-        let (answer, buffer) = compare::list(&case.setup, &case.leaves, &case.buffer, MARGIN);
-        count_answer(&mut tally, &case, answer);
-        let written = answer.unwrap_or(0);
-        for rights in &buffer[MARGIN..MARGIN + written] {
-            tally.count(Class::Rights(*rights));
+        let found = compare::list(&case.setup, &case.leaves, &case.out, &case.causes);
+        let count = found.as_ref().map(Vec::len).map_err(|refusal| *refusal);
+        count_answer(&mut tally, &case, count);
+        let Ok(found) = found else {
+            continue;
+        };
+        let setup: &Setup = case.setup[..].try_into().expect("else it is refused");
+        leaves += found.len();
+        for leaf in found {
+            tally.count(Class::Rights(leaf.rights));
+            met.count_leaf(control_of(setup), &leaf.causes);
         }
-        leaves += written;
     }
+    met.finish();
     let lists = times(LISTS);
     tally.finish(&format!(
         "{lists} lists, {leaves} leaves done, no difference"

@@ -221,7 +221,7 @@ fn setups_are_accepted() {
     let mut numbers = Numbers::new(seed(4));
     for _ in 0..20_000 {
         let setup = generate::accepted_setup(&mut numbers);
-        let answer = reference::list(&setup, &[], &mut []);
+        let answer = reference::list(&setup, &[], &mut [], &mut []);
         assert_eq!(answer, Ok(0), "{:#x}", control_of(&setup));
     }
     for level in [0, 1] {

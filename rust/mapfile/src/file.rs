@@ -34,6 +34,14 @@ impl fmt::Display for Damage {
 
 impl std::error::Error for Damage {}
 
+impl Damage {
+    /// Index that a leaf has in the place of the field at fault; none in the setup's place.
+    pub fn leaf(&self) -> Option<usize> {
+        let after_setup = self.place.checked_sub(HEADER_BYTES + SETUP_BYTES)?;
+        Some(after_setup / (HEADER_BYTES + LEAF_BYTES))
+    }
+}
+
 impl MapFile {
     /// Reads a file: one setup, then up to 2,048 leaves, and nothing else.
     pub fn read(bytes: &[u8]) -> Result<Self, Damage> {

@@ -1,7 +1,7 @@
 //! The program's listing ('File, program, host'), by the reference judge.
 
 use crate::MapFile;
-use reference::{list, plan, Refusal, MOST_LEAVES};
+use reference::{list, plan, Refusal, CAUSE_BYTES, MOST_LEAVES};
 use std::fmt::Write;
 
 /// What the program prints for a file: the leaf count, each leaf and each level's register; or
@@ -10,8 +10,9 @@ pub fn listing(bytes: &[u8]) -> String {
     let Ok(file) = MapFile::read(bytes) else {
         return "refused 13\n".into();
     };
-    let mut out = [0; MOST_LEAVES];
-    let rights = match list(&file.setup, file.leaves.as_flattened(), &mut out) {
+    let (mut out, mut causes) = ([0; MOST_LEAVES], [0; CAUSE_BYTES * MOST_LEAVES]);
+    let leaves = file.leaves.as_flattened();
+    let rights = match list(&file.setup, leaves, &mut out, &mut causes) {
         Ok(count) => &out[..count],
         Err(refusal) => return refused(refusal) + "\n",
     };
@@ -22,7 +23,7 @@ pub fn listing(bytes: &[u8]) -> String {
         writeln!(text, "{index} {rights} {forbidden} {common}").expect("a string takes any text");
     }
     for (level, name) in ["privileged", "unprivileged"].into_iter().enumerate() {
-        text += &match plan(&file.setup, level as u64, file.leaves.as_flattened()) {
+        text += &match plan(&file.setup, level as u64, leaves) {
             Ok(register) => format!("{name} {register:016x}\n"),
             Err(refusal) => format!("{name} {}\n", refused(refusal)),
         };

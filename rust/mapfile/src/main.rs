@@ -1,14 +1,21 @@
 //! Command-line tool over map files: see `mapfile --help`.
 
 use std::error::Error;
-use std::io::{self, Read, Write};
+use std::io::{self, ErrorKind, Read, Write};
 use std::process::ExitCode;
 use std::{env, fs};
 
 const HELP: &str = "\
 Usage: mapfile assemble [TEXT [FILE]]   make a map file of its text
        mapfile show [FILE [TEXT]]       write the text of a map file
+       mapfile explain [FILE [WORDS]]   say in words what each leaf allows, what
+                                        closes the rest, and what the planned
+                                        registers would change
 Names left out are standard input and standard output.
+An explanation is by the proved judge. In it, !! begins each line with a
+forbidden access that is open, or a refusal of the map.
+Exit status: 0 done; 1 input or output failed, or the input is wrong; 2 wrong
+usage; 3 explained, and the map is refused.
 
 The text, a line each; # starts a comment:
   setup                 opens the setup; first, once
@@ -29,13 +36,14 @@ fn main() -> ExitCode {
         ["--help" | "-h"] => write(HELP.as_bytes(), None),
         ["assemble", ref names @ ..] if names.len() <= 2 => assemble(names),
         ["show", ref names @ ..] if names.len() <= 2 => show(names),
+        ["explain", ref names @ ..] if names.len() <= 2 => explain(names),
         _ => {
             eprint!("{HELP}");
             return ExitCode::from(2);
         }
     };
     match done {
-        Ok(()) => ExitCode::SUCCESS,
+        Ok(code) => code,
         Err(error) => {
             eprintln!("mapfile: {error}");
             ExitCode::FAILURE
@@ -43,14 +51,30 @@ fn main() -> ExitCode {
     }
 }
 
-fn assemble(names: &[&str]) -> Result<(), Box<dyn Error>> {
+/// The exit status where nothing went wrong.
+type Done = Result<ExitCode, Box<dyn Error>>;
+
+/// A map that is refused, and explained.
+const REFUSED: u8 = 3;
+
+fn assemble(names: &[&str]) -> Done {
     let text = String::from_utf8(read(names.first())?)?;
     write(&mapfile::assemble(&text)?, names.get(1))
 }
 
-fn show(names: &[&str]) -> Result<(), Box<dyn Error>> {
+fn show(names: &[&str]) -> Done {
     let file = mapfile::MapFile::read(&read(names.first())?)?;
     write(mapfile::show(&file).as_bytes(), names.get(1))
+}
+
+fn explain(names: &[&str]) -> Done {
+    let explanation = mapfile::explain(&read(names.first())?);
+    write(explanation.text.as_bytes(), names.get(1))?;
+    Ok(if explanation.refused {
+        ExitCode::from(REFUSED)
+    } else {
+        ExitCode::SUCCESS
+    })
 }
 
 /// The bytes of the named file, or of standard input.
@@ -64,10 +88,14 @@ fn read(name: Option<&&str>) -> Result<Vec<u8>, Box<dyn Error>> {
 }
 
 /// Writes to the named file, or to standard output.
-fn write(bytes: &[u8], name: Option<&&str>) -> Result<(), Box<dyn Error>> {
+fn write(bytes: &[u8], name: Option<&&str>) -> Done {
     match name {
         Some(name) => fs::write(name, bytes).map_err(|error| format!("{name}: {error}"))?,
-        None => io::stdout().write_all(bytes)?,
+        None => match io::stdout().write_all(bytes) {
+            // A reader that has seen enough closes the pipe.
+            Err(error) if error.kind() == ErrorKind::BrokenPipe => {}
+            done => done?,
+        },
     }
-    Ok(())
+    Ok(ExitCode::SUCCESS)
 }

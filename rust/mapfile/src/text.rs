@@ -236,18 +236,22 @@ pub fn show(file: &MapFile) -> String {
         text += &format!("  {name} {value:016x}\n");
     }
     for leaf in &file.leaves {
-        text += "leaf";
-        for (name, place, length) in LEAF_FIELDS {
-            let value = number(&leaf[place..place + length]);
-            text += &format!(" {name}={value:0width$x}", width = 2 * length);
-        }
-        text += "\n";
+        text += &format!("leaf {}\n", record(leaf));
     }
     text
 }
 
+/// The fields of a leaf, as a `leaf` line has them.
+pub(crate) fn record(leaf: &[u8; LEAF_BYTES]) -> String {
+    let field = |(name, place, length): (&str, usize, usize)| {
+        let value = number(&leaf[place..place + length]);
+        format!("{name}={value:0width$x}", width = 2 * length)
+    };
+    LEAF_FIELDS.map(field).join(" ")
+}
+
 /// The names of the control bits set, then the bits without a name as one number.
-fn show_control(setup: &[u8; SETUP_BYTES]) -> String {
+pub(crate) fn show_control(setup: &[u8; SETUP_BYTES]) -> String {
     let word = number(&setup[..4]) as u32;
     let mut text = String::new();
     for (place, name) in CONTROL_NAMES.iter().enumerate() {

@@ -37,9 +37,60 @@ fn through_named_files() {
     let [text, file] = ["command.map.txt", "command.map"].map(|name| format!("{folder}/{name}"));
     fs::write(&text, TEXT).expect("the folder takes files");
     assert!(run(&["assemble", &text, &file], b"").status.success());
-    let named = run(&["show", &file], b"");
-    let piped = run(&["show"], &fs::read(&file).expect("the file is there"));
-    assert_eq!(named.stdout, piped.stdout);
+    let bytes = fs::read(&file).expect("the file is there");
+    for command in ["show", "explain"] {
+        let named = run(&[command, &file], b"");
+        let piped = run(&[command], &bytes);
+        assert_eq!(named.stdout, piped.stdout);
+        let output = format!("{folder}/command.{command}");
+        let written = run(&[command, &file, &output], b"");
+        assert!(written.status.success() && written.stdout.is_empty());
+        assert_eq!(fs::read(&output).expect("the file is there"), piped.stdout);
+    }
+}
+
+#[test]
+fn exit_status_of_explain() {
+    let file = run(&["assemble"], TEXT).stdout;
+    let explained = run(&["explain"], &file);
+    assert_eq!(explained.status.code(), Some(0));
+    assert!(explained.stdout.starts_with(b"setup      stage1\n"));
+    // A refused map is explained too: a reserved control bit, a file cut short, no file.
+    let refused = run(&["assemble"], b"setup\n  control 0x2000").stdout;
+    for (bytes, number) in [(&refused[..], "1"), (&file[..70], "13"), (b"", "13")] {
+        let explained = run(&["explain"], bytes);
+        assert_eq!(explained.status.code(), Some(3));
+        assert!(explained.stderr.is_empty());
+        let words = String::from_utf8(explained.stdout).expect("words are UTF-8");
+        assert!(words.contains(&format!("!! refused {number}: ")), "{words}");
+    }
+    let code = |arguments: &[&str]| run(arguments, &file).status.code();
+    assert_eq!(code(&["explain", "no such file"]), Some(1));
+    let folder = env!("CARGO_TARGET_TMPDIR");
+    let nowhere = format!("{folder}/no such folder/words");
+    let name = format!("{folder}/status.map");
+    fs::write(&name, &file).expect("the folder takes files");
+    assert_eq!(code(&["explain", &name, &nowhere]), Some(1));
+    assert_eq!(code(&["explain", "a", "b", "c"]), Some(2));
+}
+
+/// A reader that closes its end early ends the tool without an error.
+#[test]
+fn a_closed_pipe() {
+    let long = format!("setup\n{}", "leaf\nleaf forbidden=1\n".repeat(1024));
+    let file = run(&["assemble"], long.as_bytes()).stdout;
+    let folder = env!("CARGO_TARGET_TMPDIR");
+    let name = format!("{folder}/closed.map");
+    fs::write(&name, &file).expect("the folder takes files");
+    let mut child = Command::new(env!("CARGO_BIN_EXE_mapfile"))
+        .args(["explain", &name])
+        .stdout(Stdio::piped())
+        .stderr(Stdio::piped())
+        .spawn()
+        .expect("the tool starts");
+    drop(child.stdout.take());
+    let output = child.wait_with_output().expect("the tool ends");
+    assert_eq!((output.status.code(), output.stderr), (Some(0), vec![]));
 }
 
 #[test]

@@ -1,7 +1,8 @@
-//! One access, in document 01's order; and a leaf's rights read off its accesses.
+//! One access, in document 01's order; and a leaf's rights and causes read off its accesses.
 
+use crate::cause::CAUSE_BYTES;
 use crate::memory::{memory, Memory};
-use crate::records::{control, Leaf, Setup, LEAF_BYTES};
+use crate::records::{Leaf, Setup, LEAF_BYTES};
 use crate::rights::{stages, Access};
 use crate::Stop;
 
@@ -23,17 +24,27 @@ pub(crate) fn judge_access(setup: &Setup, leaf: &Leaf, access: Access) -> Result
     memory(setup, leaf, access)
 }
 
-/// A leaf's rights by its definition: six judgements, three with one level; the lowest refused
-/// access refuses the leaf. Records of the wrong length give 13.
-pub fn rights(setup: &[u8], leaf: &[u8]) -> Result<u8, u8> {
-    let two_levels = Setup::decode(setup)?.has(control::TWO_LEVELS);
-    let mut rights = 0;
-    for access in 0..if two_levels { 6 } else { 3 } {
-        match judge(setup, leaf, access) {
-            Ok(_) => rights |= 1 << access,
-            Err(Stop::Fault(..)) => {}
+/// A leaf's rights, and the causes of those that are missing.
+#[derive(Clone, Copy, Debug, Default, PartialEq, Eq)]
+pub struct LeafRights {
+    /// The six accesses as bits.
+    pub rights: u8,
+    /// By access number: 0 where the access is allowed or not judged, else the number of the cause.
+    pub causes: [u8; CAUSE_BYTES],
+}
+
+/// A leaf's rights and causes by their definition: six judgements, three with one level; the lowest
+/// refused access refuses the leaf. Records of the wrong length give 13.
+pub fn leaf_rights(setup: &[u8], leaf: &[u8]) -> Result<LeafRights, u8> {
+    let decoded = Setup::decode(setup)?;
+    let mut found = LeafRights::default();
+    for access in Access::all(&decoded) {
+        let number = access.number();
+        match judge(setup, leaf, number as u64) {
+            Ok(_) => found.rights |= access.right(),
+            Err(Stop::Fault(fault)) => found.causes[number] = fault.cause as u8,
             Err(Stop::Refused(number)) => return Err(number),
         }
     }
-    Ok(rights)
+    Ok(found)
 }

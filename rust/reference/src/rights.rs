@@ -1,6 +1,7 @@
-//! Permissions of both stages ('Stage 1 rights', 'Stage 2 rights'). A set of rights is a byte with
-//! a bit for each access.
+//! Permissions of both stages ('Stage 1 rights', 'Stage 2 rights'), with what takes each missing
+//! right away. A set of rights is a byte with a bit for each access.
 
+use crate::cause::{first_remover, Cause, Steps, REMOVERS};
 use crate::records::{control, Leaf, PIIndex, POIndex, Setup, Stage1Descriptor, Stage2Descriptor};
 use crate::{Kind, Stop};
 
@@ -29,6 +30,12 @@ impl Access {
         Ok(Access(number as u8))
     }
 
+    /// The accesses that the setup has.
+    pub(crate) fn all(setup: &Setup) -> impl Iterator<Item = Access> {
+        let levels = if setup.has(control::TWO_LEVELS) { 2 } else { 1 };
+        (0..levels).flat_map(Access::of_level)
+    }
+
     /// The three accesses of a level.
     pub(crate) fn of_level(level: usize) -> impl Iterator<Item = Access> {
         let first = 3 * level as u8;
@@ -42,6 +49,11 @@ impl Access {
 
     pub(crate) fn is_fetch(self) -> bool {
         self.right() & (PX | UX) != 0
+    }
+
+    /// The access's number.
+    pub(crate) fn number(self) -> usize {
+        usize::from(self.0)
     }
 
     /// 0 privileged, 1 unprivileged.
@@ -64,14 +76,14 @@ pub(crate) fn stages(setup: &Setup, leaf: &Leaf, access: Access) -> Result<(), S
 fn stage1(setup: &Setup, leaf: &Leaf, access: Access) -> Result<(), Stop> {
     let descriptor = leaf.stage1;
     if !descriptor.valid() {
-        return Err(Stop::Fault(1, Kind::Translation));
+        return Err(Stop::fault(1, Kind::Translation, Cause::Stage1Translation));
     }
     if !descriptor.access_flag() {
-        return Err(Stop::Fault(1, Kind::AccessFlag));
+        return Err(Stop::fault(1, Kind::AccessFlag, Cause::Stage1AccessFlag));
     }
     let base = base(setup, leaf)?;
-    if base.rights & access.right() == 0 {
-        return Err(Stop::Fault(1, Kind::Permission));
+    if let Some(cause) = first_remover(&base.steps, access.right()) {
+        return Err(Stop::fault(1, Kind::Permission, cause));
     }
     if setup.overlay(access.level()) && base.overlaid[access.level()] {
         overlay(setup, descriptor.po_index(), access)?;
@@ -79,14 +91,26 @@ fn stage1(setup: &Setup, leaf: &Leaf, access: Access) -> Result<(), Stop> {
     Ok(())
 }
 
-/// The rights before overlays, and at which levels an overlay applies to them.
+/// What the steps before overlays leave, and at which levels an overlay applies.
 pub(crate) struct Base {
-    pub(crate) rights: u8,
+    pub(crate) steps: Steps,
     pub(crate) overlaid: [bool; 2],
 }
 
+impl Base {
+    /// The rights before overlays: what the last step leaves.
+    pub(crate) fn rights(&self) -> u8 {
+        last(&self.steps)
+    }
+}
+
+/// What the last step leaves.
+pub(crate) const fn last(steps: &Steps) -> u8 {
+    steps[steps.len() - 1]
+}
+
 /// 7 for dirty state, then the base rights; under Indirect with 6 and 7 for the codes.
-fn base(setup: &Setup, leaf: &Leaf) -> Result<Base, Stop> {
+pub(crate) fn base(setup: &Setup, leaf: &Leaf) -> Result<Base, Stop> {
     let descriptor = leaf.stage1;
     if setup.has(control::INDIRECT) {
         if descriptor.dirty_indirect() {
@@ -97,13 +121,9 @@ fn base(setup: &Setup, leaf: &Leaf) -> Result<Base, Stop> {
     if descriptor.dirty_direct() {
         return Err(Stop::Refused(7));
     }
-    let mode = Mode::of(setup);
+    let limits = applied_limits(setup, leaf);
     Ok(Base {
-        rights: direct(
-            mode,
-            descriptor_bits(descriptor),
-            applied_limits(setup, leaf),
-        ),
+        steps: direct(Mode::of(setup), descriptor_bits(descriptor), limits),
         overlaid: [true; 2],
     })
 }
@@ -127,66 +147,98 @@ pub(crate) fn descriptor_bits(descriptor: Stage1Descriptor) -> u8 {
 pub(crate) struct Mode(pub(crate) u8);
 
 impl Mode {
+    const fn two_levels(self) -> bool {
+        self.0 & 1 != 0
+    }
+
+    const fn wxn(self) -> bool {
+        self.0 & 2 != 0
+    }
+
+    const fn pan(self) -> bool {
+        self.0 & 4 != 0
+    }
+
     pub(crate) fn of(setup: &Setup) -> Self {
         let flag = |mask, place: u8| u8::from(setup.has(mask)) << place;
         Mode(flag(control::TWO_LEVELS, 0) | flag(control::WXN, 1) | flag(control::PAN, 2))
     }
 }
 
-/// Rights under Direct. `descriptor` is as [`descriptor_bits`] gives it and `limits` has four bits.
-pub(crate) const fn direct(mode: Mode, descriptor: u8, limits: u8) -> u8 {
-    let mut rights = if mode.0 & 1 != 0 {
-        direct_two_levels(descriptor, limits)
-    } else {
-        direct_one_level(descriptor, limits)
-    };
-    if mode.0 & 2 != 0 {
+/// Direct, step by step. `descriptor` is as [`descriptor_bits`] gives it and `limits` has four bits,
+/// which are 0 where limits are disabled.
+pub(crate) const fn direct(mode: Mode, descriptor: u8, limits: u8) -> Steps {
+    let ap = ap_rights(mode, descriptor & 3);
+    let ap_table = ap & !ap_table_removes(mode, limits & 3);
+    let execute_never = ap_table & !never_executed(mode, descriptor >> 2);
+    let execute_never_table = execute_never & !never_executed(mode, limits >> 2);
+    let mut rights = execute_never_table;
+    if rights & UW != 0 {
+        rights &= !PX;
+    }
+    let unprivileged_write = rights;
+    if mode.wxn() {
         // The execute bits stand one place above the write bits.
         rights &= !((rights & (PW | UW)) << 1);
     }
-    if mode.0 & 4 != 0 && rights & (UR | UW) != 0 {
+    let wxn = rights;
+    if mode.pan() && rights & (UR | UW) != 0 {
         rights &= !(PR | PW);
     }
-    rights
+    let pan = rights;
+    [
+        ap,
+        ap_table,
+        execute_never,
+        execute_never_table,
+        unprivileged_write,
+        wxn,
+        pan,
+    ]
 }
 
-const fn direct_two_levels(descriptor: u8, limits: u8) -> u8 {
-    let granted = match descriptor & 3 {
+/// What AP[2:1] leaves: it says nothing of execution. With one level AP[1] is ignored.
+const fn ap_rights(mode: Mode, ap: u8) -> u8 {
+    if !mode.two_levels() {
+        return if ap & 2 == 0 { PR | PW | PX } else { PR | PX };
+    }
+    let granted = match ap {
         0 => PR | PW,
         1 => PR | PW | UR | UW,
         2 => PR,
         _ => PR | UR,
     };
-    let removed = match limits & 3 {
+    granted | PX | UX
+}
+
+/// What APTable takes. With one level APTable[0] is ignored.
+const fn ap_table_removes(mode: Mode, ap_table: u8) -> u8 {
+    if !mode.two_levels() {
+        return if ap_table & 2 != 0 { PW } else { 0 };
+    }
+    match ap_table {
         0 => 0,
         1 => UR | UW,
         2 => PW | UW,
         _ => PW | UR | UW,
-    };
-    let mut rights = granted & !removed;
-    if descriptor & 4 == 0 && limits & 4 == 0 && rights & UW == 0 {
-        rights |= PX;
     }
-    if descriptor & 8 == 0 && limits & 8 == 0 {
-        rights |= UX;
-    }
-    rights
 }
 
-const fn direct_one_level(descriptor: u8, limits: u8) -> u8 {
-    let mut rights = PR;
-    if descriptor & 2 == 0 && limits & 2 == 0 {
-        rights |= PW;
+/// What PXN (bit 0) and UXN (bit 1) take, of a descriptor or of its tables. With one level bit 0 is
+/// ignored and bit 1 is XN.
+const fn never_executed(mode: Mode, bits: u8) -> u8 {
+    let (pxn, uxn) = (bits & 1 != 0, bits & 2 != 0);
+    if !mode.two_levels() {
+        return if uxn { PX } else { 0 };
     }
-    if descriptor & 8 == 0 && limits & 8 == 0 {
-        rights |= PX;
-    }
-    rights
+    let privileged = if pxn { PX } else { 0 };
+    let unprivileged = if uxn { UX } else { 0 };
+    privileged | unprivileged
 }
 
 /// The rights of a base code, as those of the privileged level, or 6 where it is reserved. Code 6
 /// has none here: see [`indirect`].
-fn code_rights(code: u8) -> Result<u8, u8> {
+pub(crate) fn code_rights(code: u8) -> Result<u8, u8> {
     match code {
         0 | 6 => Ok(0),
         1 | 8 | 9 => Ok(PR),
@@ -199,7 +251,7 @@ fn code_rights(code: u8) -> Result<u8, u8> {
 }
 
 /// Base rights under Indirect: 6 where a code is reserved, then 7 for code 6 and for px together
-/// with uw.
+/// with uw. The codes are the only step: nothing else takes a base right away.
 pub(crate) fn indirect(setup: &Setup, index: PIIndex) -> Result<Base, u8> {
     let privileged = index.code(setup.pir[0]);
     // With one level PIR unprivileged is not read; code 0 grants nothing.
@@ -213,7 +265,7 @@ pub(crate) fn indirect(setup: &Setup, index: PIIndex) -> Result<Base, u8> {
         return Err(7);
     }
     Ok(Base {
-        rights,
+        steps: [rights; REMOVERS.len()],
         overlaid: [privileged < 8, unprivileged < 8],
     })
 }
@@ -223,7 +275,7 @@ fn overlay(setup: &Setup, index: POIndex, access: Access) -> Result<(), Stop> {
     let level = access.level();
     let granted = slot_rights(index.slot(setup.por[level])).map_err(Stop::Refused)?;
     if granted << (3 * level) & access.right() == 0 {
-        return Err(Stop::Fault(1, Kind::Overlay));
+        return Err(Stop::fault(1, Kind::Overlay, Cause::Overlay));
     }
     Ok(())
 }
@@ -241,18 +293,27 @@ pub(crate) fn slot_rights(slot: u8) -> Result<u8, u8> {
 
 fn stage2(descriptor: Stage2Descriptor, access: Access) -> Result<(), Stop> {
     if !descriptor.valid() {
-        return Err(Stop::Fault(2, Kind::Translation));
+        return Err(Stop::fault(2, Kind::Translation, Cause::Stage2Translation));
     }
     if !descriptor.access_flag() {
-        return Err(Stop::Fault(2, Kind::AccessFlag));
+        return Err(Stop::fault(2, Kind::AccessFlag, Cause::Stage2AccessFlag));
     }
     if descriptor.dirty() {
         return Err(Stop::Refused(7));
     }
     if stage2_rights(descriptor.s2ap(), descriptor.xn()) & access.right() == 0 {
-        return Err(Stop::Fault(2, Kind::Permission));
+        return Err(Stop::fault(2, Kind::Permission, stage2_cause(access)));
     }
     Ok(())
+}
+
+/// What takes a right away at stage 2: XN executions, S2AP reads and writes.
+fn stage2_cause(access: Access) -> Cause {
+    if access.is_fetch() {
+        Cause::Stage2Xn
+    } else {
+        Cause::S2ap
+    }
 }
 
 /// Rights of S2AP and XN.

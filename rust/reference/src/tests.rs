@@ -1,7 +1,11 @@
 //! Document 01's 'Numbers to check against', its listing, and the list against single accesses.
 
-use crate::{control::*, judge, list, plan, rights, Kind, Memory, Refusal, Stop};
-use crate::{register, LEAF_BYTES, MOST_LEAVES, SETUP_BYTES};
+mod causes;
+mod picks;
+
+use crate::{control::*, judge, leaf_rights, list, plan};
+use crate::{register, CAUSE_BYTES, LEAF_BYTES, MOST_LEAVES, SETUP_BYTES};
+use crate::{Cause, Kind, LeafRights, Memory, Refusal, Stop};
 use numbers::Numbers;
 use std::vec::Vec;
 
@@ -23,6 +27,16 @@ fn leaf(stage1: u64, stage2: u64, limits: u8, forbidden: u8) -> [u8; LEAF_BYTES]
     bytes
 }
 
+/// A list of one leaf: its rights and causes, or the number that refuses it.
+fn list_one(setup: &[u8], leaf: &[u8]) -> Result<LeafRights, u8> {
+    let (mut out, mut causes) = ([0], [0; CAUSE_BYTES]);
+    let listed = list(setup, leaf, &mut out, &mut causes);
+    let [rights] = out;
+    listed
+        .map(|_| LeafRights { rights, causes })
+        .map_err(|refusal| refusal.number)
+}
+
 fn memory(byte: u8, shareability: u8) -> Result<Memory, Stop> {
     Ok(Memory { byte, shareability })
 }
@@ -34,22 +48,49 @@ fn table_setup(more: u32) -> [u8; SETUP_BYTES] {
 
 #[test]
 fn numbers_to_check_against() {
-    let fault = |stage, kind| Err(Stop::Fault(stage, kind));
+    let fault = |stage, kind, cause| Err(Stop::fault(stage, kind, cause));
+    let uw_taken = fault(1, Kind::Permission, Cause::UnprivilegedWrite);
+    let invalid = fault(1, Kind::Translation, Cause::Stage1Translation);
+    let af_clear = fault(1, Kind::AccessFlag, Cause::Stage1AccessFlag);
     let cases = [
         ('a', 0, 0, 0x747, 0x7FF, 4, memory(0xFF, 3)),
-        ('b', 0, 0, 0x747, 0x7FF, 2, fault(1, Kind::Permission)),
+        ('b', 0, 0, 0x747, 0x7FF, 2, uw_taken),
         ('c', 0, 2, 0x747, 0x7FF, 2, memory(0xFF, 3)),
-        ('d', 0, 0, 0x747, 0x77F, 4, fault(2, Kind::Permission)),
-        ('e', 0, 2, 0x747, 0x77F, 4, fault(1, Kind::Permission)),
-        ('f', 0, 0, 0x346, 0x7FF, 0, fault(1, Kind::Translation)),
-        ('g', 0, 0, 0x347, 0x7FF, 0, fault(1, Kind::AccessFlag)),
+        (
+            'd',
+            0,
+            0,
+            0x747,
+            0x77F,
+            4,
+            fault(2, Kind::Permission, Cause::S2ap),
+        ),
+        (
+            'e',
+            0,
+            2,
+            0x747,
+            0x77F,
+            4,
+            fault(1, Kind::Permission, Cause::ApTable),
+        ),
+        ('f', 0, 0, 0x346, 0x7FF, 0, invalid),
+        ('g', 0, 0, 0x347, 0x7FF, 0, af_clear),
         ('h', 0, 0, 0x747, 0x7D7, 0, memory(0x44, 2)),
         ('i', 0, 0, 0x74F, 0x7CF, 0, memory(0x04, 2)),
         ('j', FWB, 0, 0x753, 0x7DB, 0, memory(0xEE, 3)),
         ('k', FWB, 0, 0x757, 0x7DF, 0, memory(0x4F, 3)),
         ('l', FWB, 0, 0x74F, 0x7DB, 0, memory(0xFF, 2)),
         ('m', FWB, 0, 0x747, 0x7FF, 0, Err(Stop::Refused(8))),
-        ('n', PAN, 0, 0x747, 0x7FF, 0, fault(1, Kind::Permission)),
+        (
+            'n',
+            PAN,
+            0,
+            0x747,
+            0x7FF,
+            0,
+            fault(1, Kind::Permission, Cause::Pan),
+        ),
     ];
     for (name, more, limits, stage1, stage2, access, answer) in cases {
         let found = judge(&table_setup(more), &leaf(stage1, stage2, limits, 0), access);
@@ -59,15 +100,19 @@ fn numbers_to_check_against() {
 
 #[test]
 fn rights_of_cases_a_and_c() {
-    assert_eq!(rights(&table_setup(0), &leaf(0x747, 0x7FF, 0, 0)), Ok(59));
-    assert_eq!(rights(&table_setup(0), &leaf(0x747, 0x7FF, 2, 0)), Ok(45));
     let leaves = [leaf(0x747, 0x7FF, 0, 0), leaf(0x747, 0x7FF, 2, 0)];
-    let mut out = [0xEE; 3];
-    assert_eq!(
-        list(&table_setup(0), leaves.as_flattened(), &mut out),
-        Ok(2)
+    let rights = leaves.map(|leaf| leaf_rights(&table_setup(0), &leaf).map(|found| found.rights));
+    assert_eq!(rights, [Ok(59), Ok(45)]);
+    let (mut out, mut causes) = ([0xEE; 3], [0xEE; 13]);
+    let listed = list(
+        &table_setup(0),
+        leaves.as_flattened(),
+        &mut out,
+        &mut causes,
     );
+    assert_eq!(listed, Ok(2));
     assert_eq!(out, [59, 45, 0xEE]);
+    assert_eq!(causes, [0, 0, 5, 0, 0, 0, 0, 2, 0, 0, 2, 0, 0xEE]);
 }
 
 fn listing_setup() -> [u8; SETUP_BYTES] {
@@ -78,9 +123,10 @@ fn listing_setup() -> [u8; SETUP_BYTES] {
 fn listing() {
     let leaves = [leaf(0x747, 0, 0, 16), leaf(0x707, 0, 0, 16)];
     let leaves = leaves.as_flattened();
-    let mut out = [0; 2];
-    assert_eq!(list(&listing_setup(), leaves, &mut out), Ok(2));
+    let (mut out, mut causes) = ([0; 2], [0; 12]);
+    assert_eq!(list(&listing_setup(), leaves, &mut out, &mut causes), Ok(2));
     assert_eq!(out, [25, 9]);
+    assert_eq!(causes, [0, 1, 1, 0, 0, 1, 0, 1, 1, 0, 1, 1]);
     let refused = Refusal {
         number: 12,
         leaf: 0,
@@ -107,26 +153,33 @@ fn lengths() {
     let leaves = [leaf(0x747, 0, 0, 16); MOST_LEAVES + 1];
     let (all, most) = (leaves.as_flattened(), leaves[..MOST_LEAVES].as_flattened());
     let refused = |number| Refusal { number, leaf: 0 };
+    let setup = listing_setup();
     let mut out = [0xEE; MOST_LEAVES + 1];
-    assert_eq!(list(&listing_setup(), all, &mut out), Err(refused(11)));
-    assert_eq!(
-        list(&listing_setup(), most, &mut out[..MOST_LEAVES - 1]),
-        Err(refused(11))
-    );
-    assert_eq!(
-        list(&listing_setup(), &most[1..], &mut out),
-        Err(refused(11))
-    );
-    assert_eq!(
-        list(&listing_setup()[1..], most, &mut out),
-        Err(refused(13))
-    );
-    assert!(out.iter().all(|&byte| byte == 0xEE));
-    assert_eq!(list(&listing_setup(), most, &mut out), Ok(MOST_LEAVES));
+    let mut causes = [0xEE; CAUSE_BYTES * MOST_LEAVES + 1];
+    let exact = CAUSE_BYTES * MOST_LEAVES;
+    let eleven = Err(refused(11));
+    assert_eq!(list(&setup, all, &mut out, &mut causes), eleven);
+    let short = &mut out[..MOST_LEAVES - 1];
+    assert_eq!(list(&setup, most, short, &mut causes), eleven);
+    let short = &mut causes[..exact - 1];
+    assert_eq!(list(&setup, most, &mut out, short), eleven);
+    assert_eq!(list(&setup, most, &mut out, &mut []), eleven);
+    assert_eq!(list(&setup, &most[1..], &mut out, &mut causes), eleven);
+    let thirteen = Err(refused(13));
+    assert_eq!(list(&setup[1..], most, &mut out, &mut causes), thirteen);
+    assert!(out.iter().chain(&causes).all(|&byte| byte == 0xEE));
+    let done = list(&setup, most, &mut out, &mut causes);
+    assert_eq!(done, Ok(MOST_LEAVES));
     assert!(out[..MOST_LEAVES].iter().all(|&byte| byte == 25) && out[MOST_LEAVES] == 0xEE);
-    assert_eq!(plan(&listing_setup(), 1, all), Err(refused(11)));
-    assert_eq!(plan(&listing_setup(), 1, most), Ok(0x7777_7773));
-    assert_eq!(plan(&listing_setup(), 1, &[]), Ok(0x7777_7777));
+    let leaf_causes = causes[..exact].chunks(CAUSE_BYTES);
+    assert!(leaf_causes
+        .into_iter()
+        .all(|leaf| leaf == [0, 1, 1, 0, 0, 1]));
+    assert_eq!(causes[exact], 0xEE);
+    assert_eq!(list(&setup, &[], &mut [], &mut []), Ok(0));
+    assert_eq!(plan(&setup, 1, all), Err(refused(11)));
+    assert_eq!(plan(&setup, 1, most), Ok(0x7777_7773));
+    assert_eq!(plan(&setup, 1, &[]), Ok(0x7777_7777));
 }
 
 #[test]
@@ -177,7 +230,7 @@ fn some_leaf(numbers: &mut Numbers) -> [u8; LEAF_BYTES] {
     leaf(first, second, limits as u8, forbidden as u8)
 }
 
-/// The list's rights are those of the single accesses, refusals too.
+/// The list's rights and causes are those of the single accesses, refusals too.
 #[test]
 fn list_against_single_accesses() {
     let mut numbers = Numbers::new(1);
@@ -185,11 +238,8 @@ fn list_against_single_accesses() {
     for _ in 0..200_000 {
         let setup = some_setup(&mut numbers);
         let leaf = some_leaf(&mut numbers);
-        let mut out = [0];
-        let found = list(&setup, &leaf, &mut out)
-            .map(|_| out[0])
-            .map_err(|refusal| refusal.number);
-        assert_eq!(found, rights(&setup, &leaf), "{setup:x?} {leaf:x?}");
+        let found = list_one(&setup, &leaf);
+        assert_eq!(found, leaf_rights(&setup, &leaf), "{setup:x?} {leaf:x?}");
         done += u32::from(found.is_ok());
     }
     assert!(done > 20_000, "{done}");

@@ -41,6 +41,8 @@ pub struct Fault {
     pub stage: Stage,
     /// Why it faults.
     pub kind: Kind,
+    /// What took the right away.
+    pub cause: Cause,
 }
 
 /// A stage of translation. Its value is its number.
@@ -75,7 +77,143 @@ impl fmt::Display for Fault {
             Kind::Permission => "Permission",
             Kind::Overlay => "Overlay",
         };
-        write!(f, "stage {} {kind} fault", self.stage as u8)
+        write!(f, "stage {} {kind} fault", self.stage as u8)?;
+        match self.kind {
+            // The one kind with more than one cause at a stage.
+            Kind::Permission => write!(f, ": {}", self.cause.name()),
+            _ => Ok(()),
+        }
+    }
+}
+
+/// What took a right away: the first remover in the order of request A1. Its value is its number;
+/// 0, no cause, is an allowed access.
+#[derive(Clone, Copy, Debug, PartialEq, Eq, Hash)]
+#[non_exhaustive]
+#[repr(u8)]
+pub enum Cause {
+    /// AP under Direct, the base code under Indirect.
+    ApOrBaseCode = 1,
+    /// APTable of the limits.
+    ApTable = 2,
+    /// PXN for privileged execution, UXN for unprivileged; XN with one level.
+    PxnOrUxn = 3,
+    /// PXNTable or UXNTable of the limits; XNTable with one level.
+    PxnTableOrUxnTable = 4,
+    /// Unprivileged writes hold, so privileged execution does not.
+    UnprivilegedWrite = 5,
+    /// WXN: writes hold, so execution at that level does not.
+    Wxn = 6,
+    /// PAN: an unprivileged read or write holds, so privileged ones do not.
+    Pan = 7,
+    /// The overlay of the access's level.
+    Overlay = 8,
+    /// S2AP of stage 2.
+    S2ap = 9,
+    /// XN of stage 2.
+    Stage2Xn = 10,
+    /// Stage 1's descriptor is not valid.
+    Stage1Translation = 11,
+    /// Stage 1's Access flag is clear.
+    Stage1AccessFlag = 12,
+    /// Stage 2's descriptor is not valid.
+    Stage2Translation = 13,
+    /// Stage 2's Access flag is clear.
+    Stage2AccessFlag = 14,
+}
+
+impl Cause {
+    /// Every cause, by number.
+    pub const ALL: &'static [Cause] = &[
+        Cause::ApOrBaseCode,
+        Cause::ApTable,
+        Cause::PxnOrUxn,
+        Cause::PxnTableOrUxnTable,
+        Cause::UnprivilegedWrite,
+        Cause::Wxn,
+        Cause::Pan,
+        Cause::Overlay,
+        Cause::S2ap,
+        Cause::Stage2Xn,
+        Cause::Stage1Translation,
+        Cause::Stage1AccessFlag,
+        Cause::Stage2Translation,
+        Cause::Stage2AccessFlag,
+    ];
+
+    /// The cause of a value, if there is one. 0 is no cause.
+    pub fn new(value: u8) -> Option<Self> {
+        let place = usize::from(value).checked_sub(1)?;
+        Cause::ALL.get(place).copied()
+    }
+
+    /// The stage that takes the right away.
+    pub fn stage(self) -> Stage {
+        match self {
+            Cause::ApOrBaseCode
+            | Cause::ApTable
+            | Cause::PxnOrUxn
+            | Cause::PxnTableOrUxnTable
+            | Cause::UnprivilegedWrite
+            | Cause::Wxn
+            | Cause::Pan
+            | Cause::Overlay
+            | Cause::Stage1Translation
+            | Cause::Stage1AccessFlag => Stage::One,
+            Cause::S2ap | Cause::Stage2Xn | Cause::Stage2Translation | Cause::Stage2AccessFlag => {
+                Stage::Two
+            }
+        }
+    }
+
+    /// The kind of the fault that an access with this cause takes.
+    pub fn kind(self) -> Kind {
+        match self {
+            Cause::Stage1Translation | Cause::Stage2Translation => Kind::Translation,
+            Cause::Stage1AccessFlag | Cause::Stage2AccessFlag => Kind::AccessFlag,
+            Cause::Overlay => Kind::Overlay,
+            Cause::ApOrBaseCode
+            | Cause::ApTable
+            | Cause::PxnOrUxn
+            | Cause::PxnTableOrUxnTable
+            | Cause::UnprivilegedWrite
+            | Cause::Wxn
+            | Cause::Pan
+            | Cause::S2ap
+            | Cause::Stage2Xn => Kind::Permission,
+        }
+    }
+
+    /// The words for a place that says the stage.
+    fn name(self) -> &'static str {
+        match self {
+            Cause::ApOrBaseCode => "AP or base code",
+            Cause::ApTable => "APTable",
+            Cause::PxnOrUxn => "PXN or UXN",
+            Cause::PxnTableOrUxnTable => "PXNTable or UXNTable",
+            Cause::UnprivilegedWrite => "unprivileged write",
+            Cause::Wxn => "WXN",
+            Cause::Pan => "PAN",
+            Cause::Overlay => "overlay",
+            Cause::S2ap => "S2AP",
+            Cause::Stage2Xn => "XN",
+            Cause::Stage1Translation | Cause::Stage2Translation => "Translation fault",
+            Cause::Stage1AccessFlag | Cause::Stage2AccessFlag => "Access flag fault",
+        }
+    }
+}
+
+impl fmt::Display for Cause {
+    /// The words of request A1.
+    fn fmt(&self, f: &mut fmt::Formatter<'_>) -> fmt::Result {
+        match self {
+            Cause::Stage1Translation | Cause::Stage1AccessFlag => f.write_str("stage 1's ")?,
+            Cause::S2ap | Cause::Stage2Xn | Cause::Stage2Translation | Cause::Stage2AccessFlag => {
+                f.write_str("stage 2's ")?
+            }
+            _ => {}
+        }
+        f.write_str(self.name())
     }
 }
 
@@ -127,7 +265,8 @@ pub enum Number {
     ShareabilityCode = 9,
     /// No overlay separates.
     NoOverlaySeparates = 10,
-    /// List not a multiple of 18 bytes, over 2,048 leaves, or output shorter than the leaf count.
+    /// List not a multiple of 18 bytes, over 2,048 leaves, or output shorter than the leaf count, or
+    /// causes shorter than six times the leaf count.
     ListLength = 11,
     /// Planning where stage 1 or that level's overlay is off.
     OverlayOff = 12,
@@ -185,7 +324,8 @@ impl fmt::Display for Number {
             Number::NoOverlaySeparates => "no overlay separates",
             Number::ListLength => {
                 "list not a multiple of 18 bytes, over 2,048 leaves, \
-                 or output shorter than the leaf count"
+                 or output shorter than the leaf count, \
+                 or causes shorter than six times the leaf count"
             }
             Number::OverlayOff => "planning where stage 1 or that level's overlay is off",
             Number::IllFormed => {

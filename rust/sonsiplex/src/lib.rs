@@ -1,14 +1,15 @@
 //! Safe wrapper of the map judge, list and planner for the loader.
 //!
 //! The judge reads a setup, a leaf and an access, and says whether the access is allowed, and with
-//! which memory type and shareability, or which fault it takes. The list gives the rights of many
-//! leaves. The planner gives the overlay register of a level that stops every forbidden access
-//! and no more. All three are static functions without state: they allocate nothing, and a
-//! refused call changes no byte of a lent buffer.
+//! which memory type and shareability, or which fault it takes and what took the right away. The
+//! list gives the rights of many leaves, and the cause of each that is missing. The planner gives
+//! the overlay register of a level that stops every forbidden access and no more. All three are
+//! static functions without state: they allocate nothing, and a refused call changes no byte of a
+//! lent buffer.
 //!
 //! Proved is the contract of the three exported functions: how they pack their answers, and that
 //! these meet what document 01 demands. The C boundary and this crate, with its unpacking, are not
-//! proved but tested.
+//! proved but tested. A word outside the packing is no answer of the library: it panics.
 //!
 //! # The loader's duties
 //!
@@ -40,7 +41,7 @@
 //! both; the second grants none.
 //!
 //! ```
-//! use sonsiplex::{judge, list, plan, Access, Judgement, Level, Number, Shareability};
+//! use sonsiplex::{judge, list, plan, Access, Cause, Judgement, Level, Number, Shareability};
 //!
 //! let mut setup = [0; sonsiplex::SETUP_BYTES];
 //! setup[0] = 0x2B; // two levels, stage 1, Indirect, unprivileged overlay
@@ -54,9 +55,17 @@
 //!     leaf[17] = 1 << Access::UnprivilegedWrite as u8;
 //! }
 //!
-//! let mut rights = [0; 2];
-//! assert_eq!(list(&setup, leaves.as_flattened(), &mut rights), Ok(2));
-//! assert_eq!(rights, [25, 9]);
+//! let (mut out, mut causes) = ([0; 2], [0; 2 * sonsiplex::CAUSE_BYTES]);
+//! let listed = list(&setup, leaves.as_flattened(), &mut out, &mut causes)?;
+//! assert_eq!(listed.rights(), [25, 9]);
+//! for (index, leaf) in listed.iter().enumerate() {
+//!     for access in Access::ALL {
+//!         if let Some(cause) = leaf.cause(access) {
+//!             println!("leaf {index}: no {access}, by {cause}");
+//!             assert_eq!(cause, Cause::ApOrBaseCode);
+//!         }
+//!     }
+//! }
 //!
 //! let register = plan(&setup, Level::Unprivileged, leaves.as_flattened());
 //! assert_eq!(register, Ok(0x7777_7773));
@@ -75,9 +84,13 @@
 #![no_std]
 
 mod answer;
+mod listed;
 pub mod packed;
 
-pub use answer::{Fault, Judgement, Kind, Memory, Number, Refusal, Shareability, Stage};
+pub use answer::{Cause, Fault, Judgement, Kind, Memory, Number, Refusal, Shareability, Stage};
+pub use listed::{Listed, ListedLeaf};
+
+use core::fmt;
 
 /// Length of a setup.
 pub const SETUP_BYTES: usize = 52;
@@ -85,6 +98,8 @@ pub const SETUP_BYTES: usize = 52;
 pub const LEAF_BYTES: usize = 18;
 /// Most leaves that a list has.
 pub const MOST_LEAVES: usize = 2048;
+/// Length of a leaf's causes in a list: a byte for each access, by its number.
+pub const CAUSE_BYTES: usize = 6;
 
 /// An access. Its value is its number, and its place in a rights or forbidden byte.
 #[derive(Clone, Copy, Debug, PartialEq, Eq, Hash)]
@@ -116,6 +131,20 @@ impl Access {
     ];
 }
 
+impl fmt::Display for Access {
+    /// The words of document 01.
+    fn fmt(&self, f: &mut fmt::Formatter<'_>) -> fmt::Result {
+        f.pad(match self {
+            Access::PrivilegedRead => "privileged read",
+            Access::PrivilegedWrite => "privileged write",
+            Access::PrivilegedExecute => "privileged execute",
+            Access::UnprivilegedRead => "unprivileged read",
+            Access::UnprivilegedWrite => "unprivileged write",
+            Access::UnprivilegedExecute => "unprivileged execute",
+        })
+    }
+}
+
 /// A privilege level. Its value is its number.
 #[derive(Clone, Copy, Debug, PartialEq, Eq, Hash)]
 #[repr(u8)]
@@ -136,10 +165,18 @@ pub fn judge_number(setup: &[u8], leaf: &[u8], access: u64) -> Result<Judgement,
     packed::unpack_judge(packed::judge(setup, leaf, access))
 }
 
-/// Writes the rights byte of each leaf to the start of `out` and gives the leaf count. Bytes of
-/// `out` past that count keep their values, and all of them do in a refusal.
-pub fn list(setup: &[u8], leaves: &[u8], out: &mut [u8]) -> Result<usize, Refusal> {
-    packed::unpack_list(packed::list(setup, leaves, out))
+/// Writes the rights byte of each leaf to the start of `out` and the six cause bytes of each to the
+/// start of `causes`: byte `6 * i + a` is the number of the cause of access `a` to leaf `i`, 0 where
+/// there is none. Gives both as typed answers. `out` needs a byte and `causes` [`CAUSE_BYTES`] for
+/// each leaf. Later bytes of both keep their values, and all of them do in a refusal.
+pub fn list<'a>(
+    setup: &[u8],
+    leaves: &[u8],
+    out: &'a mut [u8],
+    causes: &'a mut [u8],
+) -> Result<Listed<'a>, Refusal> {
+    let word = packed::list(setup, leaves, out, causes);
+    packed::unpack_list(word, out, causes)
 }
 
 /// Plans the overlay register of a level: the usable register that stops every forbidden access

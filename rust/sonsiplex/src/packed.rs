@@ -1,10 +1,10 @@
 //! The library's functions with their answers as it packs them, and the unpacking, which reads the
 //! fields of `crates/sonsiplex/specs/Packing.antt`. A number that is not 0 is a refusal.
 //!
-//! Bits that the packing keeps for later (47:40 of the judge for a cause, 48 and 49 for two marks
-//! of memory) are not read here.
+//! Bits that the packing keeps for later (48 and 49 of the judge, for two marks of memory) are not
+//! read here.
 
-use crate::{Fault, Judgement, Kind, Memory, Number, Refusal, Shareability, Stage};
+use crate::{Cause, Fault, Judgement, Kind, Listed, Memory, Number, Refusal, Shareability, Stage};
 
 extern "C" {
     fn sonsiplex_judge(
@@ -22,6 +22,8 @@ extern "C" {
         leaves_len: usize,
         out: *mut u8,
         out_len: usize,
+        causes: *mut u8,
+        causes_len: usize,
     ) -> u64;
 
     fn sonsiplex_plan(
@@ -49,9 +51,9 @@ pub fn judge(setup: &[u8], leaf: &[u8], access: u64) -> u64 {
 }
 
 /// The list's packed answer.
-pub fn list(setup: &[u8], leaves: &[u8], out: &mut [u8]) -> u64 {
-    // SAFETY: each pointer is a slice's, so it is not null and is valid for its length. `out` is
-    // borrowed alone, so it overlaps neither input.
+pub fn list(setup: &[u8], leaves: &[u8], out: &mut [u8], causes: &mut [u8]) -> u64 {
+    // SAFETY: each pointer is a slice's, so it is not null and is valid for its length. `out` and
+    // `causes` are each borrowed alone, so they overlap neither each other nor an input.
     unsafe {
         sonsiplex_list(
             setup.as_ptr(),
@@ -60,6 +62,8 @@ pub fn list(setup: &[u8], leaves: &[u8], out: &mut [u8]) -> u64 {
             leaves.len(),
             out.as_mut_ptr(),
             out.len(),
+            causes.as_mut_ptr(),
+            causes.len(),
         )
     }
 }
@@ -79,9 +83,9 @@ pub fn plan(setup: &[u8], level: u64, leaves: &[u8]) -> u64 {
     }
 }
 
-/// The judge's answer. Bits 7:0 number, 15:8 stage, 23:16 kind, 31:24 byte, 39:32 SH.
+/// The judge's answer. Bits 7:0 number, 15:8 stage, 23:16 kind, 31:24 byte, 39:32 SH, 47:40 cause.
 pub fn unpack_judge(word: u64) -> Result<Judgement, Refusal> {
-    let [number, stage, kind, byte, shareability, ..] = word.to_le_bytes();
+    let [number, stage, kind, byte, shareability, cause, ..] = word.to_le_bytes();
     if number != 0 {
         return Err(Refusal {
             number: known_number(word),
@@ -89,10 +93,11 @@ pub fn unpack_judge(word: u64) -> Result<Judgement, Refusal> {
         });
     }
     if stage != 0 {
-        return Ok(Judgement::Fault(Fault {
-            stage: unpack_stage(stage).unwrap_or_else(|| outside(word)),
-            kind: unpack_kind(kind).unwrap_or_else(|| outside(word)),
-        }));
+        let fault = unpack_fault(stage, kind, cause).unwrap_or_else(|| outside(word));
+        return Ok(Judgement::Fault(fault));
+    }
+    if cause != 0 {
+        outside(word);
     }
     Ok(Judgement::Allowed(Memory {
         byte,
@@ -100,10 +105,15 @@ pub fn unpack_judge(word: u64) -> Result<Judgement, Refusal> {
     }))
 }
 
-/// The list's answer. Bits 7:0 number, 31:16 leaf, 63:32 leaf count.
-pub fn unpack_list(word: u64) -> Result<usize, Refusal> {
+/// The list's answer, with the buffers that it was lent. Bits 7:0 number, 31:16 leaf, 63:32 leaf
+/// count.
+pub fn unpack_list<'a>(word: u64, out: &'a [u8], causes: &'a [u8]) -> Result<Listed<'a>, Refusal> {
     refusal_of_list(word)?;
-    Ok((word >> 32) as usize)
+    let count = (word >> 32) as usize;
+    let (causes, _) = causes.as_chunks();
+    let rights = out.get(..count).unwrap_or_else(|| outside(word));
+    let causes = causes.get(..count).unwrap_or_else(|| outside(word));
+    Ok(Listed::new(rights, causes))
 }
 
 /// The planner's answer. Bits 7:0 number, 31:16 leaf, 63:32 slots 0 to 7 of the register.
@@ -126,6 +136,16 @@ fn refusal_of_list(word: u64) -> Result<(), Refusal> {
 
 fn known_number(word: u64) -> Number {
     Number::new(word as u8).unwrap_or_else(|| outside(word))
+}
+
+/// A fault, where its cause is one of its stage and kind.
+fn unpack_fault(stage: u8, kind: u8, cause: u8) -> Option<Fault> {
+    let fault = Fault {
+        stage: unpack_stage(stage)?,
+        kind: unpack_kind(kind)?,
+        cause: Cause::new(cause)?,
+    };
+    (fault.stage == fault.cause.stage() && fault.kind == fault.cause.kind()).then_some(fault)
 }
 
 fn unpack_stage(value: u8) -> Option<Stage> {
@@ -173,28 +193,24 @@ mod tests {
         let fault = Fault {
             stage: Stage::Two,
             kind: Kind::Permission,
+            cause: Cause::Stage2Xn,
         };
-        assert_eq!(unpack_judge(0x03_02_00), Ok(Judgement::Fault(fault)));
+        let word = 0x0A00_0003_0200;
+        assert_eq!(unpack_judge(word), Ok(Judgement::Fault(fault)));
         let memory = Memory {
             byte: 0x4F,
             shareability: Shareability::Inner,
         };
         let allowed = Ok(Judgement::Allowed(memory));
         assert_eq!(unpack_judge(0x0003_4F00_0000), allowed);
-        let kept = 0x0003_FF00_0000_0000;
+        let kept = 0x0003_0000_0000_0000;
         assert_eq!(unpack_judge(kept | 0x0003_4F00_0000), allowed);
     }
 
     #[test]
-    fn every_number_stage_kind_and_shareability() {
+    fn every_number_and_shareability() {
         for value in 1..=13 {
             assert_eq!(unpack_judge(value).unwrap_err().number as u64, value);
-        }
-        for (stage, kind) in (1..=2).flat_map(|stage| (1..=4).map(move |kind| (stage, kind))) {
-            let Ok(Judgement::Fault(fault)) = unpack_judge(stage << 8 | kind << 16) else {
-                panic!("stage {stage} kind {kind} is a fault");
-            };
-            assert_eq!((fault.stage as u64, fault.kind as u64), (stage, kind));
         }
         for value in [0, 2, 3] {
             let Ok(Judgement::Allowed(memory)) = unpack_judge(value << 32) else {
@@ -204,17 +220,43 @@ mod tests {
         }
     }
 
+    /// Stage and kind of each cause, as request A1 has them.
+    fn stage_and_kind(cause: u8) -> Option<(u8, u8)> {
+        match cause {
+            1..=7 => Some((1, 3)),
+            8 => Some((1, 4)),
+            9..=10 => Some((2, 3)),
+            11..=12 => Some((1, cause - 10)),
+            13..=14 => Some((2, cause - 12)),
+            _ => None,
+        }
+    }
+
+    #[test]
+    fn every_fault_and_its_cause() {
+        let values = || (1..=3).flat_map(|stage| (0..=5).map(move |kind| (stage, kind)));
+        for ((stage, kind), cause) in values().flat_map(|fault| (0..=255).map(move |c| (fault, c)))
+        {
+            let found = unpack_fault(stage, kind, cause)
+                .map(|fault| (fault.stage as u8, fault.kind as u8, fault.cause as u8));
+            let fits = stage_and_kind(cause) == Some((stage, kind));
+            assert_eq!(found, fits.then_some((stage, kind, cause)));
+        }
+    }
+
     #[test]
     fn list_and_plan_words() {
-        assert_eq!(unpack_list(0x0800_0000_0000), Ok(2048));
-        assert_eq!(unpack_list(0x0001_0000_0000_0000), Ok(0x1_0000)); // all of bits 63:32
+        let (out, causes) = ([9; 0x1_0001], [7; 6 * 0x1_0001]);
+        let listed = |word| unpack_list(word, &out, &causes).map(|listed| listed.len());
+        assert_eq!(listed(0x0800_0000_0000), Ok(2048));
+        assert_eq!(listed(0x0001_0000_0000_0000), Ok(0x1_0000)); // all of bits 63:32
         assert_eq!(unpack_plan(0x7777_7773_0000_0000), Ok(0x7777_7773));
         let refused = unpack_plan(0x0001_000A).unwrap_err();
         assert_eq!(
             (refused.number, refused.leaf),
             (Number::NoOverlaySeparates, Some(1))
         );
-        let refused = unpack_list(11).unwrap_err();
+        let refused = listed(11).unwrap_err();
         assert_eq!((refused.number, refused.leaf), (Number::ListLength, None));
     }
 
@@ -222,5 +264,47 @@ mod tests {
     #[should_panic(expected = "outside the packing")]
     fn a_number_outside_the_packing() {
         let _ = unpack_judge(200);
+    }
+
+    #[test]
+    #[should_panic(expected = "outside the packing")]
+    fn a_fault_without_a_cause() {
+        let _ = unpack_judge(0x0003_0100);
+    }
+
+    #[test]
+    #[should_panic(expected = "outside the packing")]
+    fn a_fault_with_an_unknown_cause() {
+        let _ = unpack_judge(0x0F00_0003_0100);
+    }
+
+    #[test]
+    #[should_panic(expected = "outside the packing")]
+    fn a_fault_with_a_cause_of_another_stage() {
+        let _ = unpack_judge(0x0900_0003_0100);
+    }
+
+    #[test]
+    #[should_panic(expected = "outside the packing")]
+    fn a_fault_with_a_cause_of_another_kind() {
+        let _ = unpack_judge(0x0800_0003_0100);
+    }
+
+    #[test]
+    #[should_panic(expected = "outside the packing")]
+    fn an_allowed_access_with_a_cause() {
+        let _ = unpack_judge(0x0103_4F00_0000);
+    }
+
+    #[test]
+    #[should_panic(expected = "outside the packing")]
+    fn more_leaves_than_the_output_has() {
+        let _ = unpack_list(2 << 32, &[0], &[0; 12]);
+    }
+
+    #[test]
+    #[should_panic(expected = "outside the packing")]
+    fn more_leaves_than_the_causes_have() {
+        let _ = unpack_list(2 << 32, &[0; 2], &[0; 11]);
     }
 }

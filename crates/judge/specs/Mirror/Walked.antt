@@ -1,7 +1,8 @@
--- What `fill` answers. Nothing here needs to be believed: the laws of proofs/Walks and proofs/ListLaws tie it to `walk` and `listOf`. Assumes nothing.
-use Prim.Native.Nat.{ℕ}
+-- What `fill` answers, and what `put_causes` takes from it. Nothing here needs to be believed: the laws of proofs/Walks and proofs/ListLaws tie it to `walk` and `listOf`. Assumes nothing.
+use Prim.Native.Nat.{ℕ, _<_}
+use mathlib.Core.Path.{_≡_}
 use mathlib.Core.List.{List}
-use lib.ListN.{take}
+use lib.ListN.{take, getD}
 use Rattle.records.specs.declared.setup.Setup.{Setup}
 use Rattle.records.specs.declared.setup.Words.{Words}
 use Rattle.rights.specs.Mirror.Table.{BaseTable}
@@ -10,7 +11,9 @@ use Rattle.records.specs.Leaf.{leafAt}
 use Rattle.judge.specs.List.{Walk, bytes, refused}
 use Rattle.judge.specs.Mirror.Pass.{leafPass}
 use Rattle.judge.specs.Mirror.Quick.{SlotTable}
+use Rattle.judge.specs.LeafRights.{leafRights}
 use Rattle.judge.specs.declared.answers.LeafRights.{LeafRights}
+use Rattle.judge.specs.declared.answers.LeafRights.the-variants as leaf
 use Rattle.judge.specs.declared.answers.Listed.{Listed}
 use Rattle.judge.specs.declared.answers.Listed.the-variants as listed
 
@@ -29,3 +32,7 @@ passAt s ls i = leafPass s (leafAt ls i)
 abbrev pub walkIn : Listed → ℕ → List ℕ → Walk
 walkIn (listed.Done m) n v = bytes (take n v)
 walkIn (listed.Refused k i) n v = refused k i
+
+-- the rights of n leaves
+abbrev pub RightsOf : Setup → List ℕ → ℕ → List ℕ → Type 0
+RightsOf s ls n v = (i : ℕ) → i < n → leafRights s (leafAt ls i) ≡ leaf.Rights (getD v i 0)

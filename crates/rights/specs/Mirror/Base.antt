@@ -57,7 +57,7 @@ directBase s d t = Granted (record {
 unfoldable pub baseOf : Setup → Stage1 → Limits → BaseAnswer
 baseOf s d t = cond (s .control .indirect) (indirectOf (s .control) (s .pir) (d .piindex)) (directBase s d t)
 
--- what follows for one access
-abbrev pub baseFrom : Setup → Stage1 → Access → BaseAnswer → Answer
-baseFrom s d a (Granted b) = follow (faultUnless (has (b .rights) a) 1 Permission) (overlayAnswer s d (b .overlay) a)
-baseFrom s d a (Refused n) = answer.Refused n
+-- what follows for one access, where c is the cause of a missing right
+abbrev pub baseFrom : Setup → Stage1 → ℕ → Access → BaseAnswer → Answer
+baseFrom s d c a (Granted b) = follow (faultUnless (has (b .rights) a) 1 Permission c) (overlayAnswer s d (b .overlay) a)
+baseFrom s d c a (Refused n) = answer.Refused n

@@ -2,9 +2,9 @@
 -- Assumes nothing.
 use Rattle.records.specs.declared.access.Rights.{Rights as SixRights}
 use Prim.Native.Nat.{ℕ}
-use mathlib.Core.Bool.{Bool, true, false, cond, not, _&&_, _||_}
+use mathlib.Core.Bool.{Bool, false, cond, not, _&&_, _||_}
 use lib.Dec.{leb}
-use Rattle.records.specs.Access.{six, three, levelIn}
+use Rattle.records.specs.Access.{three, levelIn}
 use Rattle.records.specs.Descriptor.{slotAt}
 use Rattle.records.specs.Setup.{bitOf, registerOf}
 use Rattle.records.specs.declared.access.Level.{Level}
@@ -20,6 +20,7 @@ use Rattle.rights.specs.Overlay.{slotRights}
 use Rattle.rights.specs.Promise.{LevelAnswer, levelOf}
 use Rattle.rights.specs.Stage1.{dirty}
 use Rattle.rights.specs.Stage2.{stage2Rights}
+use Rattle.rights.specs.Steps.{everything}
 
 -- the rights of both levels of a leaf
 pub record LeafLevels : Type 0 where
@@ -40,10 +41,6 @@ pub data Stage2Pass : Type 0 where
   Granted : SixRights → Stage2Pass
   Nothing : Stage2Pass
   Refused : ℕ → Stage2Pass
-
--- all six rights
-abbrev pub everything : SixRights
-everything = six true true true true true true
 
 abbrev pub fromBase : BaseAnswer → Stage1Pass
 fromBase (BaseAnswer.Granted b) = Stage1Pass.Granted b

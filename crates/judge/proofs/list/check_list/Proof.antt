@@ -17,6 +17,9 @@ returns : tie.Need-returns
 unfolding listCheck
 returns c = rw (← (c .before .before .check-setup .ensures), c .enum-told2 .given .1)
 
+mul-check-if : tie.Need-mul-check-if
+mul-check-if c = search needs
+
 check-if-requires : tie.Need-check-if-requires
 check-if-requires c κs = search needs
 
@@ -27,4 +30,4 @@ returns-2 c = rw (← (c .before .before .before .check-setup .ensures), c .befo
 pub check-list-spec : {M : Type 1} → statement M
 check-list-spec =
     tie.close
-    (tie.spec check-setup-requires enum-told enum-told-2 returns check-if-requires returns-2)
+    (tie.spec check-setup-requires enum-told enum-told-2 returns mul-check-if check-if-requires returns-2)

@@ -1,18 +1,14 @@
 -- `pass_at` meets its contract: the 18 bytes of a leaf are read, so that no length is refused, and quick rights are the leaf's. Assumes nothing.
 use Rattle.records.proofs.Cases.{clash}
 use mathlib.Core.Path.{_≡_, sym, ap, _∙_, subst}
-use mathlib.Core.List.{List}
-use Prim.Native.Nat.{ℕ, _*_, _+_, _-_, _≤_, _<_}
-use native.Mathlib.Nat.{add-sub-cancel-left}
-use native.Mathlib.Omega.{arith}
-use lib.ListN.{length, take, drop, length-take, length-drop}
+use Prim.Native.Nat.{ℕ, _<_}
 use denote.Ref.{now}
-use Rattle.records.proofs.Lengths.{leaf-read}
-use Rattle.records.specs.Leaf.{readLeaf, leafAt}
+use Rattle.records.specs.Leaf.{leafAt}
 use Rattle.records.specs.declared.leaf.LeafRead.the-variants.{Read}
 use Rattle.records.specs.Setup.{setupFrom}
 use Rattle.judge.proofs.Masks.{leaf-by}
 use Rattle.judge.proofs.QuickLaws.{sound}
+use Rattle.judge.proofs.Steps.{leaf-part}
 use Rattle.judge.specs.Mirror.Pass.{leafPass, leafBy}
 use Rattle.judge.specs.declared.answers.LeafRights.the-variants.{Rights}
 use Rattle.judge.specs.Mirror.Walked.{passAt}
@@ -20,13 +16,8 @@ use borrow.Author.Needs.{needs}
 use Rattle.judge.proofs.list.pass_at.Statement.{statement}
 use Rattle.judge.proofs.list.pass_at.Tie as tie
 
--- 18 bytes of a list are its leaf
-part : (ls : List ℕ) (i : ℕ) → i * 18 + 18 ≤ length ls → readLeaf (take (i * 18 + 18 - i * 18) (drop (i * 18) ls)) ≡ Read (leafAt ls i)
-part ls i h =
-    rw (add-sub-cancel-left (i * 18) 18) (leaf-read (take 18 (drop (i * 18) ls)) (simp (length-take, length-drop) (omega arith)))
-
 read : (c : tie.After-read-leaf) → c .read-leaf .result ≡ Read (leafAt (now (c .before .before .before .args .leaves)) (c .before .before .before .args .i))
-read c = c .read-leaf .ensures ∙ part _ _ (c .before .before .before .pre .0)
+read c = c .read-leaf .ensures ∙ leaf-part _ _ (c .before .before .before .pre .0)
 
 -- the leaf that was read is leaf i
 leaf-is : (c : tie.After-l) → c .l .given .0 .0 ≡ leafAt (now (c .before .before .before .before .before .args .leaves)) (c .before .before .before .before .before .args .i)

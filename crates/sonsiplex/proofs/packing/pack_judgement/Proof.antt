@@ -28,14 +28,14 @@ pack-values-requires-3 : tie.Need-pack-values-requires-3
 pack-values-requires-3 c κs = search needs
 
 returns : tie.Need-returns
-returns c = judgement _ _ _ _ _ _ _ (ap judgementValues (c .before .before .j .given .1)) (c .pack-values .ensures)
+returns c = judgement _ _ _ _ _ _ _ _ (ap judgementValues (c .before .before .j .given .1)) (c .pack-values .ensures)
 
 returns-2 : tie.Need-returns-2
 returns-2 c =
-    judgement _ _ _ _ _ _ _ (ap judgementValues (c .before .before .before .j2 .given .1)) (rw (← (c .before .kind-number .ensures)) (c .pack-values2 .ensures))
+    judgement _ _ _ _ _ _ _ _ (ap judgementValues (c .before .before .before .j2 .given .1)) (rw (← (c .before .kind-number .ensures)) (c .pack-values2 .ensures))
 
 returns-3 : tie.Need-returns-3
-returns-3 c = judgement _ _ _ _ _ _ _ (ap judgementValues (c .before .before .j3 .given .1)) (c .pack-values3 .ensures)
+returns-3 c = judgement _ _ _ _ _ _ _ _ (ap judgementValues (c .before .before .j3 .given .1)) (c .pack-values3 .ensures)
 
 pub pack-judgement-spec : {M : Type 1} → statement M
 pack-judgement-spec =

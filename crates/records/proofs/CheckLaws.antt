@@ -1,45 +1,19 @@
--- Numbers that have the same bits are equal: by halves, up to a power of two that both are below. Chains of checks; and of finitely many checks all
--- pass, or one is the first that does not. Assumes nothing.
+-- Chains of checks. Of finitely many checks all pass, or one is the first that does not; and so a list is refused before its leaves, at a first leaf, or
+-- not at all. Assumes nothing.
 use mathlib.Core.Path.{_≡_, refl, sym, ap, _∙_}
 use mathlib.Core.Bool.{Bool, true, false, not}
+use mathlib.Core.List.{List, [], _∷_}
 use mathlib.Core.Logic.{_⊎_, inl, inr}
-use Prim.Native.Nat.{ℕ, zero, suc, _+_, _*_, _/_, _%_, _^_, _<_}
-use native.Mathlib.Nat.{div-div-eq-div-mul, eq-or-lt-of-le, le-antisymm, le-of-suc-le-suc}
+use Prim.Native.Nat.{ℕ, zero, suc, _<_}
+use native.Mathlib.Nat.{eq-or-lt-of-le, le-antisymm, le-of-suc-le-suc, not-suc-le-zero}
 use native.Mathlib.Omega.{arith}
-use lib.Dec.{eqb, ltb}
+use lib.Dec.{ltb}
+use lib.ListN.{length, getD}
 use borrow.Author.Tests.{ltb-true, ltb-false}
 use Rattle.records.proofs.Cases.{clash}
-use Rattle.records.specs.Bits.{bit}
-use Rattle.records.specs.Values.{checkIf, checkThen}
+use Rattle.records.specs.Values.{checkIf, checkThen, firstOf}
 use Rattle.records.specs.declared.check.Check.{Check}
 use Rattle.records.specs.declared.check.Check.the-variants.{Passes, Refused}
-
--- a digit is known by whether it is 1
-digit-is : (a b : ℕ) → a < 2 → b < 2 → eqb a 1 ≡ eqb b 1 → a ≡ b
-digit-is zero zero h k e = refl
-digit-is zero (suc zero) h k e = clash (cc)
-digit-is (suc zero) zero h k e = clash (cc)
-digit-is (suc zero) (suc zero) h k e = refl
-digit-is zero (suc (suc b)) h k e = absurd (omega arith)
-digit-is (suc zero) (suc (suc b)) h k e = absurd (omega arith)
-digit-is (suc (suc a)) b h k e = absurd (omega arith)
-
-below-power : (n : ℕ) → n < 2 ^ n
-below-power zero = omega arith
-below-power (suc n) = let h = below-power n in omega arith
-
-half-bit : (x k : ℕ) → bit (x / 2) k ≡ bit x (suc k)
-half-bit x k = ap (λ (n : ℕ). eqb (n % 2) 1) (div-div-eq-div-mul x 2 (2 ^ k) ∙ ap (λ (n : ℕ). x / n) (let e : 2 * 2 ^ k ≡ 2 ^ suc k = omega arith in e))
-
-same-below : (m x y : ℕ) → x < 2 ^ m → y < 2 ^ m → ((k : ℕ) → bit x k ≡ bit y k) → x ≡ y
-same-below zero x y h g e = omega arith
-same-below (suc m) x y h g e =
-    let p = same-below m (x / 2) (y / 2) (omega arith) (omega arith) (λ k. half-bit x k ∙ e (suc k) ∙ sym (half-bit y k)) in
-    let q = digit-is (x / 2 ^ 0 % 2) (y / 2 ^ 0 % 2) (omega arith) (omega arith) (e 0) in
-    omega arith
-
-pub same-bits : (x y : ℕ) → ((k : ℕ) → bit x k ≡ bit y k) → x ≡ y
-same-bits x y e = let h = below-power (x + y) in same-below (x + y) x y (omega arith) (omega arith) e
 
 -- a chain of checks that passes, and one that refuses
 pub both-pass : (a b : Check) → checkThen a b ≡ Passes → (a ≡ Passes) × (b ≡ Passes)
@@ -49,6 +23,11 @@ both-pass (Refused n) b e = clash (cc)
 pub refused-by : {N : Type 0} (a b : Check) (k : ℕ) → (a ≡ Refused k → N) → (b ≡ Refused k → N) → checkThen a b ≡ Refused k → N
 refused-by Passes b k f g e = g e
 refused-by (Refused n) b k f g e = f e
+
+pub each-passes : (R : ℕ → Check) (xs : List ℕ) → firstOf R xs ≡ Passes → (k : ℕ) → k < length xs → R (getD xs k 0) ≡ Passes
+each-passes R [] e k h = absurd (not-suc-le-zero h)
+each-passes R (a ∷ more) e zero h = both-pass (R a) _ e .0
+each-passes R (a ∷ more) e (suc k) h = each-passes R more (both-pass (R a) _ e .1) k (le-of-suc-le-suc h)
 
 -- one check that refuses, and one that passes
 pub checked : (t : Bool) (n k : ℕ) → checkIf t n ≡ Refused k → k ≡ n
@@ -69,7 +48,7 @@ pub record FirstAt (R : ℕ → Check) (n k i : ℕ) : Type 0 where
   pub before : AllPass R i
   pub refuses : R i ≡ Refused k
 
-pub decided : (R : ℕ → Check) (n : ℕ) → AllPass R n ⊎ ((k : ℕ) × (i : ℕ) × FirstAt R n k i)
+decided : (R : ℕ → Check) (n : ℕ) → AllPass R n ⊎ ((k : ℕ) × (i : ℕ) × FirstAt R n k i)
 decided R zero = inl (λ j h. absurd (omega arith))
 decided R (suc n) = go (decided R n) (R n) refl
   where
@@ -92,3 +71,17 @@ same-first R k i m j h x p y = go (ltb i j) refl (ltb j i) refl
     go false c false d =
         let e : i ≡ j = le-antisymm (ltb-false j i d) (ltb-false i j c) in
         let z = sym x ∙ ap R e ∙ y in (cc, e)
+
+-- what may come before checks 0 to n - 1, and these: the first refusal is before them or at one of them, or there is none
+pub data Ways (x : Check) (R : ℕ → Check) (n : ℕ) : Type 0 where
+  refused-before : (k : ℕ) → x ≡ Refused k → Ways x R n
+  refused-at : (k i : ℕ) → x ≡ Passes → FirstAt R n k i → Ways x R n
+  none-refused : x ≡ Passes → AllPass R n → Ways x R n
+
+pub ways : (x : Check) (R : ℕ → Check) (n : ℕ) → Ways x R n
+ways (Refused k) R n = refused-before k refl
+ways Passes R n = go (decided R n)
+  where
+    go : AllPass R n ⊎ ((k : ℕ) × (i : ℕ) × FirstAt R n k i) → Ways Passes R n
+    go (inl h) = none-refused refl h
+    go (inr (k, i, h)) = refused-at k i refl h
