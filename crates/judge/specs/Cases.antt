@@ -1,5 +1,5 @@
--- Document 01, 'Numbers to check against': the starred cases a to l, as one table, with the causes of request A1. Control 7 unless said, MAIR 4FAA0444FF00, limits 0.
--- Assumes nothing.
+-- Document 01, 'Numbers to check against': the starred cases a to l, as one table, with the causes of request A1. Control 7 unless said, MAIR
+-- 4FAA0444FF00, limits 0. Assumes nothing.
 use Prim.Native.Nat.{ℕ, zero, suc, _/_, _%_}
 use mathlib.Core.List.{List, [], _∷_, _++_}
 use lib.ListN.{replicate}

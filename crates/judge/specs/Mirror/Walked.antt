@@ -1,4 +1,5 @@
--- What `fill` answers, and what `put_causes` takes from it. Nothing here needs to be believed: the laws of proofs/Walks and proofs/ListLaws tie it to `walk` and `listOf`. Assumes nothing.
+-- What `fill` answers, and what `put_causes` takes from it. Nothing here needs to be believed: the laws of proofs/Walks and proofs/ListLaws tie it to
+-- `walk` and `listOf`. Assumes nothing.
 use Prim.Native.Nat.{ℕ, _<_}
 use mathlib.Core.Path.{_≡_}
 use mathlib.Core.List.{List}
