@@ -1,5 +1,5 @@
 pub mod Laws
-pub mod Table
+pub mod KnownLaws
 pub mod Codes
 pub mod SourceTables
 pub mod Sources

@@ -4,9 +4,9 @@
 //
 // No public function has a `requires`: the fields of a record are read within their widths.
 mod combine;
+pub mod known;
 mod mair;
 pub mod order;
-pub mod pass;
 mod shareability;
 mod stage2;
 

@@ -4,7 +4,7 @@
 use mathlib.Core.Path.{_≡_, refl, ap, _∙_}
 use mathlib.Core.Bool.{Bool, true, false, not, _&&_}
 use mathlib.Core.List.{List, [], _∷_}
-use Prim.Native.Nat.{ℕ, _*_, _/_, _≤_}
+use Prim.Native.Nat.{ℕ, zero, suc, _*_, _/_, _≤_}
 use lib.Dec.{leb}
 use lib.ListN.{length}
 use borrow.Author.Tests.{le-leb}
@@ -40,7 +40,6 @@ use Rattle.judge.specs.declared.answers.Judgement.the-variants.{Allowed,
 use Rattle.judge.specs.declared.answers.LeafRights.{LeafRights}
 use Rattle.judge.specs.declared.answers.Listed.{Listed}
 use Rattle.judge.specs.declared.answers.Listed.the-variants as listed
-use Rattle.judge.proofs.Walks.{same-walk}
 
 -- The judge, as before
 abbrev judged : Setup → Leaf → ℕ → Judgement
@@ -132,6 +131,11 @@ same-rights s f = gathered (today.judged s f) (judged s f) (same-judged s f) (ju
 -- the list's answer and output, where the causes fit
 abbrev outcome : ListResult → Result
 outcome r = record { answer = r .answer; out = r .out }
+
+-- walks over functions that agree are the same
+same-walk : (f g : ℕ → LeafRights) → ((i : ℕ) → f i ≡ g i) → (i m : ℕ) → walk f i m ≡ walk g i m
+same-walk f g e i zero = refl
+same-walk f g e i (suc m) = rw (e i, same-walk f g e (suc i) m)
 
 finished : (w : Walk) (x : List ℕ) (n : ℕ) (o c : List ℕ) → outcome (list.finish w x n o c) ≡ finish w n o
 finished (bytes b) x n o c = refl

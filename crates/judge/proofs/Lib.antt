@@ -1,6 +1,4 @@
 pub mod Steps
-pub mod Agree
-pub mod Masks
 pub mod Outcome
 pub mod Demands
 pub mod Bits
@@ -8,9 +6,10 @@ pub mod CauseBytes
 pub mod Fitting
 pub mod ListDemands
 pub mod ListMet
-pub mod Walks
+pub mod LeafWords
+pub mod Filled
+pub mod Refusals
 pub mod ListLaws
 pub mod Bounds
 pub mod Cases
-pub mod QuickLaws
 pub mod Before

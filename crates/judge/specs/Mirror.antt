@@ -1,5 +1,4 @@
 -- Definitions that only mirror the code of this crate, for all accesses of a leaf at once. Nothing below needs to be believed: each file names the
 -- law that ties it.
-pub mod Pass
-pub mod Quick
 pub mod Walked
+pub mod Words

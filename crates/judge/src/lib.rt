@@ -3,5 +3,6 @@
 // caller.
 pub mod access;
 pub mod answers;
+mod fill;
 pub mod list;
-mod pass;
+mod walk;

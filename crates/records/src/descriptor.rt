@@ -3,6 +3,7 @@
 ghost use mathlib.Core.Path.{_≡_};
 ghost use Rattle.records.specs.Descriptor.{limitsOf, stage1Of, stage2Of};
 
+pub mod fields;
 pub mod index;
 
 use crate::descriptor::index::PIIndex;

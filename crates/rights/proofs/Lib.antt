@@ -1,3 +1,4 @@
+pub mod Branches
 pub mod Tables
 pub mod BaseMasks
 pub mod AnswerSteps
@@ -12,4 +13,8 @@ pub mod Masks
 pub mod Table
 pub mod Refusals
 pub mod PromiseLaws
+pub mod Joins
+pub mod WordNumbers
+pub mod WordLaws
+pub mod WordReading
 pub mod Before

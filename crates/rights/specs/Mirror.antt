@@ -5,3 +5,6 @@ pub mod BaseMasks
 pub mod Pass
 pub mod Masks
 pub mod Table
+pub mod Words
+pub mod Parts
+pub mod Lanes

@@ -1,4 +1,4 @@
-//! What is timed: a setup and 2,048 leaves of one mode, and the functions of both sides on them.
+//! What is measured: a setup and leaves of one mode, and the functions of all sides on them.
 
 use numbers::Numbers;
 use reference::{control::*, register, CAUSE_BYTES, LEAF_BYTES, MOST_LEAVES, SETUP_BYTES};
@@ -12,7 +12,10 @@ const EMPTY: Buffers = ([0; MOST_LEAVES], [0; CAUSE_BYTES * MOST_LEAVES]);
 /// A way to set up the release.
 #[derive(Clone, Copy, Debug, PartialEq, Eq)]
 pub(crate) struct Mode {
+    /// Its name on the command line.
     pub(crate) name: &'static str,
+    /// Its name in a table.
+    pub(crate) title: &'static str,
     control: u32,
     /// Percent of leaves that are invalid or have AF clear, at either stage.
     faults: usize,
@@ -20,26 +23,31 @@ pub(crate) struct Mode {
 
 const BOTH_STAGES: u32 = TWO_LEVELS | STAGE1 | STAGE2;
 const OVERLAYS: u32 = PRIVILEGED_OVERLAY | UNPRIVILEGED_OVERLAY;
+const DIRECT_OVERLAYS: u32 = BOTH_STAGES | OVERLAYS;
+const INDIRECT_OVERLAYS: u32 = BOTH_STAGES | INDIRECT | OVERLAYS;
 
-/// The modes, in the order of the table.
-pub(crate) const MODES: [Mode; 6] = [
-    mode("direct", BOTH_STAGES, 0),
-    mode("direct-overlays", BOTH_STAGES | OVERLAYS, 0),
-    mode("indirect", BOTH_STAGES | INDIRECT, 0),
-    mode("indirect-overlays", BOTH_STAGES | INDIRECT | OVERLAYS, 0),
-    mode("direct-faults", BOTH_STAGES | OVERLAYS, 40),
-    mode("indirect-faults", BOTH_STAGES | INDIRECT | OVERLAYS, 40),
+/// The modes, in the order of the tables.
+#[rustfmt::skip]
+pub(crate) const MODES: [Mode; 7] = [
+    mode("direct", "Direct", BOTH_STAGES, 0),
+    mode("direct-overlays", "Direct with overlays", DIRECT_OVERLAYS, 0),
+    mode("indirect", "Indirect", BOTH_STAGES | INDIRECT, 0),
+    mode("indirect-overlays", "Indirect with overlays", INDIRECT_OVERLAYS, 0),
+    mode("direct-faults", "Direct with faults", DIRECT_OVERLAYS, 40),
+    mode("indirect-faults", "Indirect with faults", INDIRECT_OVERLAYS, 40),
+    mode("one-level", "One level, stage 1 alone", STAGE1, 0),
 ];
 
-const fn mode(name: &'static str, control: u32, faults: usize) -> Mode {
+const fn mode(name: &'static str, title: &'static str, control: u32, faults: usize) -> Mode {
     Mode {
         name,
+        title,
         control,
         faults,
     }
 }
 
-/// A function of both sides.
+/// A function that is measured.
 #[derive(Clone, Copy, Debug, PartialEq, Eq)]
 pub(crate) enum Function {
     List,
@@ -47,9 +55,33 @@ pub(crate) enum Function {
 }
 
 impl Function {
+    /// Its name on the command line.
+    pub(crate) fn name(self) -> &'static str {
+        match self {
+            Function::List => "list",
+            Function::Plan => "plan",
+        }
+    }
+
     /// Whether the mode has what the function needs.
     pub(crate) fn fits(self, mode: Mode) -> bool {
         self == Function::List || mode.control & OVERLAYS != 0
+    }
+
+    /// Who has the function.
+    pub(crate) fn sides(self) -> &'static [Side] {
+        match self {
+            Function::List => &[Side::Proved, Side::Fast, Side::Reference],
+            Function::Plan => &[Side::Proved, Side::Reference],
+        }
+    }
+
+    /// How many leaves it is measured on.
+    pub(crate) fn lengths(self) -> &'static [usize] {
+        match self {
+            Function::List => &[MOST_LEAVES, 0, 1, 16, 64],
+            Function::Plan => &[MOST_LEAVES],
+        }
     }
 }
 
@@ -57,7 +89,19 @@ impl Function {
 #[derive(Clone, Copy, Debug, PartialEq, Eq)]
 pub(crate) enum Side {
     Proved,
+    Fast,
     Reference,
+}
+
+impl Side {
+    /// Its name on the command line.
+    pub(crate) fn name(self) -> &'static str {
+        match self {
+            Side::Proved => "proved",
+            Side::Fast => "fast",
+            Side::Reference => "reference",
+        }
+    }
 }
 
 /// The inputs of one mode.
@@ -81,53 +125,51 @@ impl Work {
         Work { setup, leaves }
     }
 
-    /// Calls the function this often and gives the last answer as a number.
-    pub(crate) fn run(&self, function: Function, side: Side, calls: u32) -> u64 {
-        match function {
-            Function::List => self.list(side, calls),
-            Function::Plan => self.plan(side, calls),
+    /// Calls the function this often on the first leaves and gives the last answer as a number.
+    pub(crate) fn run(&self, function: Function, side: Side, leaves: usize, calls: usize) -> u64 {
+        let leaves = &self.leaves[..LEAF_BYTES * leaves];
+        let mut buffers = EMPTY;
+        let mut last = 0;
+        for call in 0..calls {
+            last = match function {
+                Function::List => self.list_call(side, leaves, &mut buffers),
+                Function::Plan => self.plan_call(side, leaves, call as u64 % 2),
+            };
         }
+        last
     }
 
-    /// The rights and causes of the list by one side.
+    /// The rights and causes of all leaves by one side.
     pub(crate) fn rights(&self, side: Side) -> Buffers {
         let mut buffers = EMPTY;
-        self.list_once(side, &mut buffers);
+        self.list_call(side, &self.leaves, &mut buffers);
         buffers
     }
 
-    fn list(&self, side: Side, calls: u32) -> u64 {
-        let mut buffers = EMPTY;
-        let mut last = 0;
-        for _ in 0..calls {
-            last = self.list_once(side, black_box(&mut buffers));
-        }
-        black_box(last) as u64
-    }
-
-    #[inline(always)]
-    fn list_once(&self, side: Side, (out, causes): &mut Buffers) -> usize {
-        let (setup, leaves) = (black_box(&self.setup), black_box(&self.leaves));
-        match side {
-            Side::Proved => {
-                let listed = sonsiplex::list(setup, leaves, out, causes);
-                listed.expect("not refused").len()
-            }
+    /// One call; its instructions are counted.
+    #[inline(never)]
+    fn list_call(&self, side: Side, leaves: &[u8], buffers: &mut Buffers) -> u64 {
+        let (setup, leaves) = (black_box(&self.setup), black_box(leaves));
+        let (out, causes) = black_box(buffers);
+        let count = match side {
+            Side::Proved => sonsiplex::list(setup, leaves, out, causes)
+                .expect("not refused")
+                .len(),
+            Side::Fast => fast::list(setup, leaves, out, causes).expect("not refused"),
             Side::Reference => reference::list(setup, leaves, out, causes).expect("not refused"),
-        }
+        };
+        count as u64
     }
 
-    fn plan(&self, side: Side, calls: u32) -> u64 {
-        let mut last = 0;
-        for call in 0..calls {
-            let level = u64::from(call % 2);
-            let (setup, leaves) = (black_box(&self.setup), black_box(&self.leaves));
-            last = match side {
-                Side::Proved => sonsiplex::plan_number(setup, level, leaves).expect("separates"),
-                Side::Reference => reference::plan(setup, level, leaves).expect("separates"),
-            };
+    /// One call; its instructions are counted.
+    #[inline(never)]
+    fn plan_call(&self, side: Side, leaves: &[u8], level: u64) -> u64 {
+        let (setup, leaves) = (black_box(&self.setup), black_box(leaves));
+        match side {
+            Side::Proved => sonsiplex::plan_number(setup, level, leaves).expect("separates"),
+            Side::Fast => panic!("the fast judge has no planner"),
+            Side::Reference => reference::plan(setup, level, leaves).expect("separates"),
         }
-        black_box(last)
     }
 }
 

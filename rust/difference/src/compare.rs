@@ -1,4 +1,5 @@
-//! Comparison of the library with the reference, by the packed answer and through the wrapper.
+//! Comparison of the library with the reference, by the packed answer and through the wrapper; of
+//! lists also the fast one.
 //!
 //! Each function fails with the input in hex where they differ, and gives the common answer.
 
@@ -18,46 +19,70 @@ pub fn judge(setup: &[u8], leaf: &[u8], access: u64) -> Result<Memory, Stop> {
     answer
 }
 
-/// Compares both lists on the lent buffers; what the calls leave of both, with their margins, is
-/// compared. Gives what the list found of each leaf.
+/// The buffers that a list is lent.
+#[derive(Clone, PartialEq, Eq)]
+struct Buffers {
+    out: Lent,
+    causes: Lent,
+}
+
+/// Compares the library's list and the fast one with the reference's on the lent buffers; what the
+/// calls leave of both, with their margins, is compared. Gives what the list found of each leaf.
 pub fn list(
     setup: &[u8],
     leaves: &[u8],
     out: &Lent,
     causes: &Lent,
 ) -> Result<Vec<LeafRights>, Refusal> {
-    let (mut out_expected, mut causes_expected) = (out.clone(), causes.clone());
-    let answer = reference::list(setup, leaves, out_expected.lend(), causes_expected.lend());
+    let lent = || Buffers {
+        out: out.clone(),
+        causes: causes.clone(),
+    };
+    let mut expected = lent();
+    let answer = reference::list(setup, leaves, expected.out.lend(), expected.causes.lend());
     let count = answer.unwrap_or(0);
-    assert!(out_expected.kept(out, count));
-    assert!(causes_expected.kept(causes, CAUSE_BYTES * count));
-    let (mut out_left, mut causes_left) = (out.clone(), causes.clone());
-    let found = packed::list(setup, leaves, out_left.lend(), causes_left.lend());
+    assert!(expected.out.kept(out, count));
+    assert!(expected.causes.kept(causes, CAUSE_BYTES * count));
+
+    let mut left = lent();
+    let fast = fast::list(setup, leaves, left.out.lend(), left.causes.lend());
     assert!(
-        found == packed_list(answer) && out_left == out_expected && causes_left == causes_expected,
-        "library {found:#018x}, reference {answer:?}\n{}\n\
-         output {}\nexpected {}\ncauses {}\nexpected {}",
+        fast == answer && left == expected,
+        "fast {fast:?}, reference {answer:?}\n{}\n{}",
         words(setup, leaves),
-        hex(out_left.bytes()),
-        hex(out_expected.bytes()),
-        hex(causes_left.bytes()),
-        hex(causes_expected.bytes()),
+        buffers(&left, &expected),
     );
-    let wrapped = packed::unpack_list(found, out_left.content(), causes_left.content());
+
+    let mut left = lent();
+    let found = packed::list(setup, leaves, left.out.lend(), left.causes.lend());
+    assert!(
+        found == packed_list(answer) && left == expected,
+        "library {found:#018x}, reference {answer:?}\n{}\n{}",
+        words(setup, leaves),
+        buffers(&left, &expected),
+    );
+    let wrapped = packed::unpack_list(found, left.out.content(), left.causes.content());
     let count = wrapped.map(|listed| listed.len());
     assert!(same_refusal(count, answer));
     answer?;
     let listed = wrapped.expect("neither is refused");
-    let found = leaf_rights(
-        out_expected.content(),
-        causes_expected.content(),
-        listed.len(),
-    );
+    let found = leaf_rights(&expected, listed.len());
     assert!(same_leaves(listed, &found), "{}", words(setup, leaves));
     Ok(found)
 }
 
-/// Compares both lists on buffers that are just long enough for whole leaves.
+/// What a call left of its buffers and what it should have left, in hex.
+fn buffers(left: &Buffers, expected: &Buffers) -> String {
+    format!(
+        "output {}\nexpected {}\ncauses {}\nexpected {}",
+        hex(left.out.bytes()),
+        hex(expected.out.bytes()),
+        hex(left.causes.bytes()),
+        hex(expected.causes.bytes()),
+    )
+}
+
+/// Compares the lists on buffers that are just long enough for whole leaves.
 pub fn list_exactly(setup: &[u8], leaves: &[u8]) -> Result<Vec<LeafRights>, Refusal> {
     let count = leaves.len() / LEAF_BYTES;
     let out = Lent::filled(0xA5, count);
@@ -70,10 +95,11 @@ pub fn list_exactly(setup: &[u8], leaves: &[u8]) -> Result<Vec<LeafRights>, Refu
 }
 
 /// The first leaves that the buffers hold.
-fn leaf_rights(out: &[u8], causes: &[u8], count: usize) -> Vec<LeafRights> {
-    let (causes, _) = causes.as_chunks();
+fn leaf_rights(buffers: &Buffers, count: usize) -> Vec<LeafRights> {
+    let rights = &buffers.out.content()[..count];
+    let (causes, _) = buffers.causes.content().as_chunks();
     let leaf = |(&rights, &causes)| LeafRights { rights, causes };
-    out[..count].iter().zip(causes).map(leaf).collect()
+    rights.iter().zip(causes).map(leaf).collect()
 }
 
 /// Compares both planners.

@@ -12,7 +12,8 @@ const STAGE1_OPEN: u64 = 0x441;
 const STAGE2_OPEN: u64 = 0x4C1;
 const ACCESSES: std::ops::Range<u64> = 0..6;
 
-/// Every MAIR byte with every MemAttr and SH of both stages, FWB clear and set, stage 2 off too.
+/// Every MAIR byte with every MemAttr and SH of both stages, FWB clear and set, stage 2 off too; as
+/// single accesses and as lists.
 #[test]
 fn memory_types() {
     for (more, byte) in product([0, STAGE2, STAGE2 | FWB], 0..=255) {
@@ -30,6 +31,7 @@ fn memory_types() {
             let stage2 = STAGE2_OPEN | mem_attr << 2 | sh << 8;
             let leaf = leaf(stage1 | first << 8, stage2, 0, 0);
             compare::judge(&setup, &leaf, 0).ok();
+            compare::list_exactly(&setup, &leaf).ok();
         }
     }
 }
@@ -45,6 +47,7 @@ fn memory_types_with_stage_1_off() {
         for access in ACCESSES {
             compare::judge(&setup, &leaf, access).ok();
         }
+        compare::list_exactly(&setup, &leaf).ok();
     }
 }
 
@@ -68,6 +71,20 @@ fn direct_forms() {
         for list in leaves.chunks(MOST_LEAVES) {
             compare::list_exactly(&setup, list.as_flattened()).ok();
         }
+    }
+}
+
+/// Every choice of valid, AF and the permission bits of both descriptors, as lists of one leaf.
+#[test]
+fn descriptor_forms() {
+    let overlays = PRIVILEGED_OVERLAY | UNPRIVILEGED_OVERLAY;
+    let more = [0, WXN | PAN, overlays, INDIRECT, INDIRECT | overlays];
+    for (more, forms) in product(more, 0..1 << 14) {
+        let setup = causes_setup(TWO_LEVELS | STAGE1 | STAGE2 | more);
+        let descriptor = |form| at_places(form, &[0, 6, 7, 10, 51, 53, 54]);
+        let (stage1, stage2) = (descriptor(forms & 127), descriptor(forms >> 7));
+        let leaf = leaf(stage1 | 1 << 60, stage2, 0, 0);
+        compare::list_exactly(&setup, &leaf).ok();
     }
 }
 
@@ -228,8 +245,7 @@ fn causes_leaves(control: u32) -> Vec<Leaf> {
     let stage2 = [0, 1, 0x401 | 2 << 53, STAGE2_OPEN];
     let usable = product(0..512, stage2).map(|(form, stage2)| {
         let (limits, slot) = (form >> 4 & 15, form >> 8);
-        let bits = (0..4).map(|bit| (form >> bit & 1) << places[bit]);
-        let stage1 = bits.fold(0x401 | slot << 60, |descriptor, bit| descriptor | bit);
+        let stage1 = 0x401 | slot << 60 | at_places(form, &places);
         leaf(stage1, stage2, limits as u8, 0)
     });
     let faults = product([0, 1, 0x400], stage2).map(|(first, second)| leaf(first, second, 0, 0));
@@ -243,9 +259,13 @@ fn among_reserved(code: u64, index: u64) -> u64 {
 
 /// A valid descriptor with AF set and these indices.
 fn indirect_descriptor(pi_index: u64, po_index: u64) -> u64 {
-    let places = [6, 51, 53, 54];
-    let bits = (0..4).map(|bit| (pi_index >> bit & 1) << places[bit]);
-    bits.fold(0x401 | po_index << 60, |descriptor, bit| descriptor | bit)
+    0x401 | po_index << 60 | at_places(pi_index, &[6, 51, 53, 54])
+}
+
+/// The lowest bits of a number, put at these places.
+fn at_places(number: u64, places: &[u32]) -> u64 {
+    let bits = places.iter().enumerate();
+    bits.fold(0, |put, (bit, place)| put | (number >> bit & 1) << place)
 }
 
 /// The bits whose places are set in `choice`.

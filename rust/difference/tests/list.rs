@@ -1,4 +1,5 @@
-//! Lists: the library against the reference, and what is left of both lent buffers.
+//! Lists: the library and the fast list against the reference, and what is left of both lent
+//! buffers.
 
 use difference::causes::Met;
 use difference::generate::{self, control_of, Leaf, Setup};

@@ -1,0 +1,126 @@
+// The rights and causes of a list of leaves, from one pass by words, into buffers of its own. A leaf that is refused is marked, and the list that has one is
+// walked again by the judge's own function.
+ghost use mathlib.Core.Path.{_≡_};
+ghost use Prim.Native.Nat.{_+_, _*_, _≤_};
+ghost use lib.Dec.{eqb};
+ghost use lib.ListN.{length};
+ghost use Rattle.records.specs.Leaf.{leafAt, leafCount};
+ghost use Rattle.records.specs.declared.check.Check.the-variants.{Passes};
+ghost use Rattle.rights.specs.Checks.{setupCheck};
+ghost use Rattle.judge.specs.List.{leavesOf};
+ghost use Rattle.judge.specs.Mirror.Words.{markOf, putAt, Tables, clear, Found};
+use crate::answers::Listed;
+use crate::walk::first_refusal;
+use attributes::known::is_known;
+use attributes::known::memory_table;
+use records::leaf::Leaf;
+use records::leaf::LeafRead;
+use records::number::wide;
+use records::setup::Setup;
+use rights::words::leaf_word;
+use rights::words::tables::base_words;
+use rights::words::tables::slot_words;
+use rights::words::tables::stage_words;
+
+// Leaf `i` of a list.
+fn leaf_of(leaves: &[u8], i: usize) -> Leaf
+    requires { ⌜ i * 18 + 18 ≤ length (now leaves) ⌝ }
+    ensures { λ r. ⌜ r ≡ leafAt (now (leaves .entry)) i ⌝ }
+{
+    let from = i * 18;
+    let to = from + 18;
+    let LeafRead::Read(l) = records::leaf::read_leaf(&leaves[from..to]) else {
+        // never: 18 bytes are read
+        return Leaf {
+            stage1: 0,
+            stage2: 0,
+            limits: 0,
+            forbidden: 0,
+        };
+    };
+    l
+}
+
+// Not 0 exactly where a leaf is refused: limits or forbidden bits are too high, its word `w` has an access that meets a refusal or refused base codes, or an
+// access has a right to memory that is not known.
+fn mark(w: u64, known: bool, l: Leaf) -> u64
+    ensures { λ r. ⌜ r ≡ markOf w known l ⌝ }
+{
+    let over = (wide(l.limits) >> 4) | (wide(l.forbidden) >> 6);
+    if known {
+        return (w >> 54) | over;
+    }
+    (w >> 48) | over
+}
+
+// The six causes of a word, from index `at` on.
+fn put(causes: &mut [u8], at: usize, w: u64)
+    requires { ⌜ at + 6 ≤ length (now causes) ⌝ }
+    ensures { λ _. ⌜ now (causes .exit) ≡ putAt (now (causes .entry)) at w ⌝ }
+{
+    causes[at] = ((w >> 0) % 256) as u8;
+    causes[at + 1] = ((w >> 8) % 256) as u8;
+    causes[at + 2] = ((w >> 16) % 256) as u8;
+    causes[at + 3] = ((w >> 24) % 256) as u8;
+    causes[at + 4] = ((w >> 32) % 256) as u8;
+    causes[at + 5] = ((w >> 40) % 256) as u8;
+}
+
+// Puts the rights of `n` leaves at the start of `rights` and their causes at the start of `causes`. The answer is 0 exactly where no leaf is marked.
+fn fill(
+    s: Setup,
+    base: &[u64; 64],
+    slots: &[u64; 64],
+    stages: &[u64; 96],
+    memory: &[u8; 40],
+    leaves: &[u8],
+    n: usize,
+    rights: &mut [u8],
+    causes: &mut [u8],
+) -> u64
+    requires { ⌜ (n * 18 ≤ length (now leaves)) × (n ≤ length (now rights)) × (6 * n ≤ length (now causes)) × Tables s (now base) (now slots) (now stages) (now memory) ⌝ }
+    ensures { λ r. ⌜ (eqb r 0 ≡ clear s (now (leaves .entry)) n) × Found s (now (leaves .entry)) n (now (rights .exit)) (now (causes .exit)) ⌝ }
+{
+    let mut marks: u64 = 0;
+    let mut i: usize = 0;
+    while i < n {
+        let l = leaf_of(leaves, i);
+        let w = leaf_word(base, slots, stages, s, l);
+        let known = is_known(memory, l.stage1, l.stage2);
+        marks = marks | mark(w, known, l);
+        rights[i] = ((w >> 48) % 64) as u8;
+        put(causes, 6 * i, w);
+        i += 1;
+    }
+    marks
+}
+
+// The leaves of an accepted list, by way of two buffers that hold their rights and causes until no leaf is known to be refused.
+pub(crate) fn list_leaves(
+    s: Setup,
+    leaves: &[u8],
+    rights: &mut [u8],
+    found: &mut [u8],
+    out: &mut [u8],
+    causes: &mut [u8],
+) -> Listed
+    requires { ⌜ (leafCount (now leaves) ≤ length (now rights)) × (6 * leafCount (now leaves) ≤ length (now found)) ⌝ }
+    requires { ⌜ (leafCount (now leaves) ≤ length (now out)) × (6 * leafCount (now leaves) ≤ length (now causes)) ⌝ }
+    requires { ⌜ (leafCount (now leaves) ≤ 2048) × (setupCheck (s .control) ≡ Passes) ⌝ }
+    ensures { λ r. ⌜ r ≡ leavesOf s (now (leaves .entry)) (now (out .entry)) (now (causes .entry)) .answer ⌝ }
+    ensures { λ r. ⌜ now (out .exit) ≡ leavesOf s (now (leaves .entry)) (now (out .entry)) (now (causes .entry)) .out ⌝ }
+    ensures { λ r. ⌜ now (causes .exit) ≡ leavesOf s (now (leaves .entry)) (now (out .entry)) (now (causes .entry)) .causes ⌝ }
+{
+    let n = leaves.len() / 18;
+    let base = base_words(s.control.indirect, s.control.two);
+    let slots = slot_words();
+    let stages = stage_words();
+    let memory = memory_table(s.control, s.mair, s.mair2);
+    let marks = fill(s, &base, &slots, &stages, &memory, leaves, n, rights, found);
+    if marks != 0 {
+        return first_refusal(s, leaves, n);
+    }
+    bytes::copy(&rights[..n], out);
+    bytes::copy(&found[..6 * n], causes);
+    Listed::Done(n)
+}

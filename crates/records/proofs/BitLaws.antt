@@ -1,0 +1,87 @@
+-- Numbers of bits: `bitAnd` and `bitOr` go by bits, a remainder by a power of two takes the lowest and a quotient drops them. Assumes nothing.
+use mathlib.Core.Path.{_≡_, refl, sym, _∙_}
+use mathlib.Core.Bool.{Bool, true, false, not, _&&_, _||_}
+use mathlib.Core.List.{List, [], _∷_}
+use Prim.Native.Nat.{ℕ, zero, suc, _+_, _*_, _/_, _%_, _^_, _<_, min, max}
+use native.Mathlib.Nat.{pow-suc, mul-comm, zero-mod, zero-div, div-div-eq-div-mul}
+use native.Mathlib.Omega.{arith}
+use lib.Arith.{digits-div, digits-mod, mod-mul}
+use lib.Pow.{pow-pos}
+use lib.Bits.{bitAnd, bitOr, and-step, or-step, or-zero-r, and-zero-r}
+use lib.Dec.{eqb}
+use lib.ListN.{take, drop}
+use borrow.Author.Tests.{ne-eqb}
+use Rattle.records.specs.Access.{digit}
+use Rattle.records.specs.Mirror.BitLists.{bits}
+
+digit-low : (b : Bool) → digit b < 2
+digit-low true = omega arith
+digit-low false = omega arith
+
+half : (b : Bool) (l : List Bool) → bits (b ∷ l) / 2 ≡ bits l
+half b l = digits-div (bits l) (digit-low b)
+
+lowest : (b : Bool) (l : List Bool) → bits (b ∷ l) % 2 ≡ digit b
+lowest b l = digits-mod (bits l) (digit-low b)
+
+-- both; and one of two, as far as both lists go, then the rest of either
+abbrev pub ands : List Bool → List Bool → List Bool
+ands [] l = []
+ands (a ∷ k) [] = []
+ands (a ∷ k) (b ∷ l) = (a && b) ∷ ands k l
+
+abbrev pub ors : List Bool → List Bool → List Bool
+ors [] l = l
+ors (a ∷ k) [] = a ∷ k
+ors (a ∷ k) (b ∷ l) = (a || b) ∷ ors k l
+
+and-digit : (a b : Bool) → min (digit a) (digit b) ≡ digit (a && b)
+and-digit true true = refl
+and-digit true false = refl
+and-digit false true = refl
+and-digit false false = refl
+
+or-digit : (a b : Bool) → max (digit a) (digit b) ≡ digit (a || b)
+or-digit true true = refl
+or-digit true false = refl
+or-digit false true = refl
+or-digit false false = refl
+
+pub and-bits : (k l : List Bool) → bitAnd (bits k) (bits l) ≡ bits (ands k l)
+and-bits [] l = refl
+and-bits (a ∷ k) [] = and-zero-r (bits (a ∷ k))
+and-bits (a ∷ k) (b ∷ l) =
+    and-step (bits (a ∷ k)) (bits (b ∷ l)) ∙ rw (half a k, half b l, lowest a k, lowest b l, and-bits k l, and-digit a b)
+
+pub or-bits : (k l : List Bool) → bitOr (bits k) (bits l) ≡ bits (ors k l)
+or-bits [] l = refl
+or-bits (a ∷ k) [] = or-zero-r (bits (a ∷ k))
+or-bits (a ∷ k) (b ∷ l) =
+    or-step (bits (a ∷ k)) (bits (b ∷ l)) ∙ rw (half a k, half b l, lowest a k, lowest b l, or-bits k l, or-digit a b)
+
+-- the bits of the low end, and those above
+pub low-bits : (n : ℕ) (l : List Bool) → bits l % 2 ^ n ≡ bits (take n l)
+low-bits zero l = omega arith
+low-bits (suc n) [] = zero-mod (2 ^ suc n)
+low-bits (suc n) (b ∷ l) =
+    rw (pow-suc 2 n) (mod-mul (bits (b ∷ l)) (pow-pos n) (omega arith) ∙ rw (half b l, lowest b l, low-bits n l))
+
+pub high-bits : (n : ℕ) (l : List Bool) → bits l / 2 ^ n ≡ bits (drop n l)
+high-bits zero l = omega arith
+high-bits (suc n) [] = zero-div (2 ^ suc n)
+high-bits (suc n) (b ∷ l) =
+    rw (pow-suc 2 n, mul-comm (2 ^ n) 2, ← (div-div-eq-div-mul (bits (b ∷ l)) 2 (2 ^ n)), half b l) (high-bits n l)
+
+-- some bit is on
+abbrev pub some : List Bool → Bool
+some [] = false
+some (b ∷ l) = b || some l
+
+pub none-bits : (l : List Bool) → eqb (bits l) 0 ≡ not (some l)
+none-bits [] = refl
+none-bits (true ∷ l) = ne-eqb (bits l * 2 + 1) 0 (λ e. omega arith)
+none-bits (false ∷ l) = twice (bits l) ∙ none-bits l
+  where
+    twice : (n : ℕ) → eqb (n * 2 + 0) 0 ≡ eqb n 0
+    twice zero = refl
+    twice (suc n) = ne-eqb (suc n * 2 + 0) 0 (λ e. omega arith) ∙ sym (ne-eqb (suc n) 0 (λ e. omega arith))
