@@ -3,13 +3,11 @@
 use mathlib.Core.Path.{_≡_, refl}
 use mathlib.Core.Bool.{Bool, true, false, _&&_, _||_, and-comm}
 use mathlib.Core.List.{List}
-use Prim.Native.Nat.{ℕ, zero, suc, _+_, _/_, _%_, _<_}
+use Prim.Native.Nat.{ℕ, _+_, _/_, _%_, _<_}
 use native.Mathlib.Omega.{arith}
-use lib.Bits.{bitOr, or-add-and, and-le-r}
 use lib.Dec.{eqb}
 use lib.ListN.{getD}
 use lib.Seq.{getD-drop}
-use borrow.Author.Tests.{ne-eqb}
 use Rattle.records.proofs.Cases.{upto, at}
 use Rattle.records.specs.Access.{digit}
 use Rattle.records.specs.Bits.{field}
@@ -22,12 +20,6 @@ use Rattle.attributes.specs.StageTwoType.{memAttrOf, reservedMemAttr}
 use Rattle.attributes.specs.Shareability.{reservedSH}
 use Rattle.attributes.specs.Order.{checkOf}
 use Rattle.attributes.specs.Mirror.Known.{badSH, MemoryTable, knownWith, passes}
-
--- two numbers joined are 0 exactly where both are
-pub or-none : (a b : ℕ) → eqb (bitOr a b) 0 ≡ (eqb a 0 && eqb b 0)
-or-none zero b = refl
-or-none (suc a) b =
-    rw (ne-eqb (suc a) 0 (λ e. omega arith)) (ne-eqb (bitOr (suc a) b) 0 (λ e. omega (arith, or-add-and (suc a) b, and-le-r (suc a) b)))
 
 -- four digits are 0 exactly where the three checks pass
 all-pass : (a b x y : Bool) → (eqb (digit a) 0 && eqb (digit b) 0 && eqb (digit x) 0 && eqb (digit y) 0)

@@ -1,6 +1,6 @@
 -- The buffers of a list, a leaf at a time: its rights, its six causes, and whether a leaf is marked. Assumes nothing.
-use mathlib.Core.Path.{_≡_, ap, ap₂, _∙_}
-use mathlib.Core.Bool.{Bool, _&&_}
+use mathlib.Core.Path.{_≡_, ap, _∙_}
+use mathlib.Core.Bool.{Bool}
 use mathlib.Core.List.{List}
 use Prim.Native.Nat.{ℕ, _+_, _*_, _/_, _%_, _≤_, _<_}
 use native.Mathlib.Numerals.{add-one}
@@ -8,16 +8,16 @@ use native.Mathlib.Omega.{arith}
 use lib.Bits.{bitOr}
 use lib.Dec.{eqb}
 use lib.ListN.{length, set, length-set}
+use Rattle.records.proofs.BitLaws.{or-none}
 use Rattle.records.proofs.Halves.{Entries, one-entry}
 use Rattle.records.specs.Leaf.{leafAt}
 use Rattle.records.specs.declared.leaf.Leaf.{Leaf}
 use Rattle.records.specs.declared.setup.Setup.{Setup}
 use Rattle.rights.proofs.WordNumbers.{number-law}
-use Rattle.rights.specs.Mirror.Parts.{baseWords, slotWords, stageWords, leafNumber, leafWord}
-use Rattle.rights.specs.Mirror.Words.{numberOf}
-use Rattle.attributes.proofs.KnownLaws.{known-law, or-none}
+use Rattle.rights.specs.Mirror.Parts.{leafNumber}
+use Rattle.attributes.proofs.KnownLaws.{known-law}
 use Rattle.attributes.specs.Mirror.Known.{knownWith}
-use Rattle.judge.specs.Mirror.Words.{markOf, knownOf, rightsIn, causeIn, wordAt, markAt, clear, putAt, Tables}
+use Rattle.judge.specs.Mirror.Words.{markOf, causeIn, wordAt, markAt, clear, putAt, Tables}
 
 fewer : (f : ℕ → ℕ) (t : List ℕ) (m n : ℕ) → n ≤ m → Entries f t m → Entries f t n
 fewer f t m n h e j g = e j (omega arith)

@@ -4,11 +4,11 @@ use mathlib.Core.Bool.{Bool, true, false, cond, not, _&&_, _||_}
 use mathlib.Core.List.{List, [], _∷_}
 use Prim.Native.Nat.{ℕ, _+_, _*_, _/_, _%_, _^_, _≤_, _<_}
 use native.Mathlib.Omega.{arith}
-use lib.Bits.{bitAnd, bitOr, or-zero-l, or-add-and, and-le-r}
+use lib.Bits.{bitOr}
 use lib.Dec.{eqb, leb, ltb}
 use lib.ListN.{getD}
-use borrow.Author.Tests.{eqb-true, eqb-false, eq-eqb, ne-eqb, ltb-true, ltb-false, le-leb, leb-true, leb-false}
-use Rattle.records.proofs.BitLaws.{some}
+use borrow.Author.Tests.{eqb-true, eq-eqb, ne-eqb, ltb-true, ltb-false, le-leb, leb-true}
+use Rattle.records.proofs.BitLaws.{some, or-none}
 use Rattle.records.proofs.Cases.{clash, at, each}
 use Rattle.records.specs.Access.{accessAt}
 use Rattle.records.specs.Descriptor.{stage1Of, stage2Of, limitsOf}
@@ -24,10 +24,10 @@ use Rattle.rights.proofs.WordLaws.{word-law}
 use Rattle.rights.proofs.WordReading.{cause-in, rights-in, refused-in, any-in}
 use Rattle.rights.specs.Answers.{follow, answerOf}
 use Rattle.rights.specs.Checks.{setupCheck, accessCheck, leafCheck}
-use Rattle.rights.specs.Mirror.Lanes.{Agrees, refusedCodes, refusesIn}
+use Rattle.rights.specs.Mirror.Agreement.{Agrees, refusedCodes, refusesIn}
 use Rattle.rights.specs.Mirror.Parts.{onePart, stagesWord, leafWord}
 use Rattle.rights.specs.Mirror.Words.{Word, joined, sixBits, threeCodes, numberOf}
-use Rattle.rights.specs.Order.{leafAnswer, afterAccess, rightsAnswer, stagesAnswer}
+use Rattle.rights.specs.Order.{leafAnswer, rightsAnswer}
 use Rattle.rights.specs.declared.answers.Answer.{Answer}
 use Rattle.rights.specs.declared.answers.Answer.the-variants as answer
 use Rattle.rights.specs.declared.checks.AccessCheck.the-variants as access
@@ -37,7 +37,7 @@ use Rattle.attributes.specs.declared.Memory.{Memory}
 use Rattle.judge.specs.Answers.{judgementValues}
 use Rattle.judge.specs.Demands.{isJudged}
 use Rattle.judge.specs.Judge.{fetches, combined, afterRights, judged}
-use Rattle.judge.specs.LeafRights.{weigh, add, gather, judgedAccesses, leafRights}
+use Rattle.judge.specs.LeafRights.{add, gather, judgedAccesses, leafRights}
 use Rattle.judge.specs.List.{causeAt}
 use Rattle.judge.specs.Mirror.Words.{markOf, knownOf, rightsIn, causeIn}
 use Rattle.judge.specs.declared.answers.Judgement.{Judgement}
@@ -104,28 +104,13 @@ small-cause answer.Permitted r p c h f e = let z = h .2 in omega arith
 small-cause (answer.Fault g) r p c h f e = let z = h .2 in let y = f .0 in omega arith
 small-cause (answer.Refused n) r p c h f e = let z : true ≡ false = sym h ∙ e in clash (cc)
 
--- no bit is on in either of two numbers
-pub or-none : (a b : ℕ) → eqb (bitOr a b) 0 ≡ (eqb a 0 && eqb b 0)
-or-none a b = go (eqb a 0) (eqb b 0) refl refl
+-- limits and forbidden bits that are too high: n is above m exactly where q is not 0
+above-clear : (n m q : ℕ) → (q ≡ 0 → n ≤ m) → (n ≤ m → q ≡ 0) → eqb q 0 ≡ not (ltb m n)
+above-clear n m q f g = go (ltb m n) refl
   where
-    go : (x y : Bool) → eqb a 0 ≡ x → eqb b 0 ≡ y → eqb (bitOr a b) 0 ≡ (x && y)
-    go true y e f = rw (eqb-true a 0 e, or-zero-l b) f
-    go false y e f = ne-eqb (bitOr a b) 0 (λ z. eqb-false a 0 e (omega (arith, or-add-and a b, and-le-r a b)))
-
--- limits and forbidden bits that are too high
-limits-clear : (n : ℕ) → eqb (n / 2 ^ 4) 0 ≡ not (ltb 15 n)
-limits-clear n = go (ltb 15 n) refl
-  where
-    go : (b : Bool) → ltb 15 n ≡ b → eqb (n / 2 ^ 4) 0 ≡ not b
-    go true e = let h = ltb-true 15 n e in ne-eqb (n / 2 ^ 4) 0 (λ z. omega arith)
-    go false e = let h = ltb-false 15 n e in eq-eqb (n / 2 ^ 4) 0 (omega arith)
-
-forbidden-clear : (n : ℕ) → eqb (n / 2 ^ 6) 0 ≡ not (ltb 63 n)
-forbidden-clear n = go (ltb 63 n) refl
-  where
-    go : (b : Bool) → ltb 63 n ≡ b → eqb (n / 2 ^ 6) 0 ≡ not b
-    go true e = let h = ltb-true 63 n e in ne-eqb (n / 2 ^ 6) 0 (λ z. omega arith)
-    go false e = let h = ltb-false 63 n e in eq-eqb (n / 2 ^ 6) 0 (omega arith)
+    go : (b : Bool) → ltb m n ≡ b → eqb q 0 ≡ not b
+    go true e = let h = ltb-true m n e in ne-eqb q 0 (λ z. let k = f z in omega arith)
+    go false e = eq-eqb q 0 (g (ltb-false m n e))
 
 -- the mark of a leaf, by its bits
 abbrev over : Leaf → Bool
@@ -137,7 +122,7 @@ seen w known = cond known (some (sixBits (w .meets) (threeCodes (w .codes)))) (s
 mark-is : (w : Word) (known : Bool) (f : Leaf) → eqb (markOf (numberOf w) known f) 0 ≡ not (seen w known || over f)
 mark-is w known f =
     or-none (cond known (numberOf w / 2 ^ 54) (numberOf w / 2 ^ 48)) (bitOr (f .limits / 2 ^ 4) (f .forbidden / 2 ^ 6))
-    ∙ ap₂ _&&_ (by-known known) (or-none (f .limits / 2 ^ 4) (f .forbidden / 2 ^ 6) ∙ ap₂ _&&_ (limits-clear (f .limits)) (forbidden-clear (f .forbidden)))
+    ∙ ap₂ _&&_ (by-known known) (or-none (f .limits / 2 ^ 4) (f .forbidden / 2 ^ 6) ∙ ap₂ _&&_ (above-clear (f .limits) 15 (f .limits / 2 ^ 4) (λ e. omega arith) (λ e. omega arith)) (above-clear (f .forbidden) 63 (f .forbidden / 2 ^ 6) (λ e. omega arith) (λ e. omega arith)))
     ∙ nots (seen w known) (ltb 15 (f .limits)) (ltb 63 (f .forbidden))
   where
     by-known : (k : Bool) → eqb (cond k (numberOf w / 2 ^ 54) (numberOf w / 2 ^ 48)) 0 ≡ not (seen w k)

@@ -19,7 +19,7 @@ use Rattle.records.specs.declared.setup.SetupRead.{SetupRead}
 use Rattle.rights.specs.Checks.{setupCheck}
 use Rattle.judge.specs.Demands.{ListDemands}
 use Rattle.judge.specs.LeafRights.{leafRights}
-use Rattle.judge.specs.List.{Walk, bytes, refused, walk, causeAt, causesFrom, causesOf, ListResult, finish, leavesOf, listRead, listOf}
+use Rattle.judge.specs.List.{Walk, bytes, refused, walk, causeAt, causesOf, ListResult, finish, leavesOf, listRead, listOf}
 use Rattle.judge.specs.Mirror.Walked.{listedOf}
 use Rattle.judge.specs.Mirror.Words.{rightsIn, causeIn, wordAt, markAt, clear, Found}
 use Rattle.judge.specs.declared.answers.LeafRights.{LeafRights}

@@ -4,42 +4,23 @@ ghost use mathlib.Core.Path.{_≡_};
 ghost use Prim.Native.Nat.{_+_, _*_, _≤_};
 ghost use lib.Dec.{eqb};
 ghost use lib.ListN.{length};
-ghost use Rattle.records.specs.Leaf.{leafAt, leafCount};
+ghost use Rattle.records.specs.Leaf.{leafCount};
 ghost use Rattle.records.specs.declared.check.Check.the-variants.{Passes};
 ghost use Rattle.rights.specs.Checks.{setupCheck};
 ghost use Rattle.judge.specs.List.{leavesOf};
 ghost use Rattle.judge.specs.Mirror.Words.{markOf, putAt, Tables, clear, Found};
 use crate::answers::Listed;
 use crate::walk::first_refusal;
+use crate::walk::leaf_of;
 use attributes::known::is_known;
 use attributes::known::memory_table;
 use records::leaf::Leaf;
-use records::leaf::LeafRead;
 use records::number::wide;
 use records::setup::Setup;
 use rights::words::leaf_word;
 use rights::words::tables::base_words;
 use rights::words::tables::slot_words;
 use rights::words::tables::stage_words;
-
-// Leaf `i` of a list.
-fn leaf_of(leaves: &[u8], i: usize) -> Leaf
-    requires { ⌜ i * 18 + 18 ≤ length (now leaves) ⌝ }
-    ensures { λ r. ⌜ r ≡ leafAt (now (leaves .entry)) i ⌝ }
-{
-    let from = i * 18;
-    let to = from + 18;
-    let LeafRead::Read(l) = records::leaf::read_leaf(&leaves[from..to]) else {
-        // never: 18 bytes are read
-        return Leaf {
-            stage1: 0,
-            stage2: 0,
-            limits: 0,
-            forbidden: 0,
-        };
-    };
-    l
-}
 
 // Not 0 exactly where a leaf is refused: limits or forbidden bits are too high, its word `w` has an access that meets a refusal or refused base codes, or an
 // access has a right to memory that is not known.
@@ -95,7 +76,7 @@ fn fill(
     marks
 }
 
-// The leaves of an accepted list, by way of two buffers that hold their rights and causes until no leaf is known to be refused.
+// The leaves of an accepted list, by way of two buffers that hold their rights and causes until it is known that no leaf is refused.
 pub(crate) fn list_leaves(
     s: Setup,
     leaves: &[u8],

@@ -1,6 +1,6 @@
 // The walk of a refused list by the judge's own function, leaf by leaf and access by access, lowest first: which leaf is refused, and its number.
 ghost use mathlib.Core.Path.{_≡_};
-ghost use Prim.Native.Nat.{ℕ, _*_, _≤_};
+ghost use Prim.Native.Nat.{ℕ, _+_, _*_, _≤_};
 ghost use lib.ListN.{length};
 ghost use Rattle.records.specs.Leaf.{leafAt};
 ghost use Rattle.judge.specs.LeafRights.{leafRights};
@@ -13,6 +13,25 @@ use records::check::Check;
 use records::leaf::Leaf;
 use records::leaf::LeafRead;
 use records::setup::Setup;
+
+// Leaf `i` of a list.
+pub(crate) fn leaf_of(leaves: &[u8], i: usize) -> Leaf
+    requires { ⌜ i * 18 + 18 ≤ length (now leaves) ⌝ }
+    ensures { λ r. ⌜ r ≡ leafAt (now (leaves .entry)) i ⌝ }
+{
+    let from = i * 18;
+    let to = from + 18;
+    let LeafRead::Read(l) = records::leaf::read_leaf(&leaves[from..to]) else {
+        // never: 18 bytes are read
+        return Leaf {
+            stage1: 0,
+            stage2: 0,
+            limits: 0,
+            forbidden: 0,
+        };
+    };
+    l
+}
 
 // The refusal of a leaf: that of its lowest judged access that has one. With one level only accesses 0 to 2 are judged.
 pub(crate) fn leaf_refusal(s: Setup, f: Leaf) -> Check
@@ -36,15 +55,7 @@ pub(crate) fn first_refusal(s: Setup, leaves: &[u8], n: usize) -> Listed
 {
     let mut i: usize = 0;
     while i < n {
-        let from = i * 18;
-        let to = from + 18;
-        let LeafRead::Read(l) = records::leaf::read_leaf(&leaves[from..to]) else {
-            // never: 18 bytes are read
-            return Listed::Refused {
-                number: 13,
-                leaf: i,
-            };
-        };
+        let l = leaf_of(leaves, i);
         if let Check::Refused(k) = leaf_refusal(s, l) {
             return Listed::Refused { number: k, leaf: i };
         }

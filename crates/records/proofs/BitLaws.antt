@@ -7,7 +7,7 @@ use native.Mathlib.Nat.{pow-suc, mul-comm, zero-mod, zero-div, div-div-eq-div-mu
 use native.Mathlib.Omega.{arith}
 use lib.Arith.{digits-div, digits-mod, mod-mul}
 use lib.Pow.{pow-pos}
-use lib.Bits.{bitAnd, bitOr, and-step, or-step, or-zero-r, and-zero-r}
+use lib.Bits.{bitAnd, bitOr, and-step, or-step, or-zero-r, and-zero-r, or-add-and, and-le-r}
 use lib.Dec.{eqb}
 use lib.ListN.{take, drop}
 use borrow.Author.Tests.{ne-eqb}
@@ -85,3 +85,9 @@ none-bits (false ∷ l) = twice (bits l) ∙ none-bits l
     twice : (n : ℕ) → eqb (n * 2 + 0) 0 ≡ eqb n 0
     twice zero = refl
     twice (suc n) = ne-eqb (suc n * 2 + 0) 0 (λ e. omega arith) ∙ sym (ne-eqb (suc n) 0 (λ e. omega arith))
+
+-- two numbers joined are 0 exactly where both are
+pub or-none : (a b : ℕ) → eqb (bitOr a b) 0 ≡ (eqb a 0 && eqb b 0)
+or-none zero b = refl
+or-none (suc a) b =
+    rw (ne-eqb (suc a) 0 (λ e. omega arith)) (ne-eqb (bitOr (suc a) b) 0 (λ e. omega (arith, or-add-and (suc a) b, and-le-r (suc a) b)))

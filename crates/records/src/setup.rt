@@ -150,7 +150,7 @@ pub fn read_control(w: u32) -> Control
 }
 
 // The setup of these words.
-pub fn setup_from(w: Words) -> Setup
+fn setup_from(w: Words) -> Setup
     ensures { λ r. ⌜ r ≡ setupFrom w ⌝ }
 {
     let pir = w.pir;

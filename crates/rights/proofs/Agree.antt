@@ -1,4 +1,4 @@
--- The one pass gives what the accesses of a level give one by one. Stage 1 and stage 2 are each seen first as what they do to every
+-- The planner's pass gives what the accesses of a level give one by one. Stage 1 and stage 2 are each seen first as what they do to every
 -- access; what is left is a rule over truth values, computed at all of them. Assumes nothing.
 use mathlib.Core.Path.{_≡_, refl, ap}
 use mathlib.Core.Bool.{Bool, true, false, cond, _&&_}
@@ -206,7 +206,7 @@ with-stage1 o (Stage1Pass.Granted b) v t f g c e l = passes (levelIn (b .rights)
 with-stage1 o Stage1Pass.Nothing v t f g c e l = refl
 with-stage1 o (Stage1Pass.Refused n) v t f g c e l = refl
 
--- the accesses of a level are those of the one pass. Where it is refused none is permitted: at one level there is at most one refusal, and every
+-- the accesses of a level are those of the pass. Where it is refused none is permitted: at one level there is at most one refusal, and every
 -- access that the base grants, or that reaches stage 2, meets it
 both-agree : (s : Setup) (d : Stage1) (e : Stage2) (t : Limits) (l : Level)
     → level (stagesAnswer s d e t (accessOf l Read)) (stagesAnswer s d e t (accessOf l Write)) (stagesAnswer s d e t (accessOf l Execute))
@@ -226,14 +226,7 @@ both-agree s d e t l =
     (with-stage1 (s .control .overlay) (stage1Pass s d t) (slotAt (registerOf (s .por) l) (d .poindex)) (stage2Pass (s .control .stage2) e)
     (firstFault 1 11 12 (d .valid)) (firstFault 2 13 14 (e .valid)) (λ r. baseCause s d t (accessOf l r)) (λ r. stage2Cause e (accessOf l r)) l)
 
--- the rights of a level are those of the one pass
+-- the rights of a level are those of the pass
 pub agree : (s : Setup) (d : Stage1) (e : Stage2) (t : Limits) (l : Level) → levelOf s d e t l ≡ pass s d e t l
 unfolding levelOf
 agree s d e t l = ap (λ (p : LevelAnswer × LevelRights). p .0) (both-agree s d e t l)
-
--- on a level that is refused no access is permitted
-pub none-left : (s : Setup) (d : Stage1) (e : Stage2) (t : Limits) (l : Level) (n : ℕ) → levelOf s d e t l ≡ LevelAnswer.Refused n
-    → three (permitted (stagesAnswer s d e t (accessOf l Read))) (permitted (stagesAnswer s d e t (accessOf l Write))) (permitted (stagesAnswer s d e t (accessOf l Execute)))
-    ≡ none
-unfolding levelOf
-none-left s d e t l n q = rw q at (ap (λ (p : LevelAnswer × LevelRights). p .1) (both-agree s d e t l))

@@ -1,4 +1,4 @@
--- The numbers of the one pass are those of Direct and Indirect: each rule is computed at all values of the bits that it reads. Assumes
+-- The numbers of the planner's pass are those of Direct and Indirect: each rule is computed at all values of the bits that it reads. Assumes
 -- nothing.
 use Rattle.records.proofs.Cases.{clash}
 use mathlib.Core.Path.{_≡_, refl, sym, ap, ap₂, _∙_}

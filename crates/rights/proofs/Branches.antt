@@ -1,5 +1,5 @@
 -- What a branch gives, by which way its test went. Assumes nothing.
-use mathlib.Core.Path.{_≡_, refl}
+use mathlib.Core.Path.{_≡_}
 use mathlib.Core.Bool.{Bool, true, false, cond}
 use Rattle.records.proofs.Cases.{clash}
 

@@ -1,6 +1,6 @@
 -- A field's two words before a word are the word of the field before what follows it; and the words of a table. Assumes nothing.
 use mathlib.Core.Path.{_≡_, refl, ap, ap₂, _∙_}
-use mathlib.Core.Bool.{Bool, true, false, cond, _||_}
+use mathlib.Core.Bool.{Bool, true, false, cond, or-false}
 use mathlib.Core.List.{List, [], _∷_, _++_}
 use Prim.Native.Nat.{ℕ, zero, suc, _+_, _*_, _<_}
 use native.Mathlib.Nat.{le-of-suc-le-suc, not-suc-le-zero, add-assoc}
@@ -15,10 +15,6 @@ use Rattle.records.specs.Mirror.BitLists.{bits}
 use Rattle.records.specs.declared.access.Access.{Access}
 use Rattle.rights.specs.Mirror.Parts.{joinAt}
 use Rattle.rights.specs.Mirror.Words.{Word, Part, joined, over, sixBits, byte, alike, threeCodes, wordBits, keepBits, takeBits, numberOf, keepOf, takeOf, pairs}
-
-or-false : (b : Bool) → (b || false) ≡ b
-or-false true = refl
-or-false false = refl
 
 -- the byte of one access
 lane : (k : Bool) (n c : ℕ) (x m w : List Bool) → ors (byte (cond k 0 c) x) (ands (alike k m) (byte n w)) ≡ byte (cond k n c) (ors x (ands m w))

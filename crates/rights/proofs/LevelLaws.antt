@@ -13,7 +13,6 @@ use Rattle.records.specs.declared.descriptor.Limits.{Limits}
 use Rattle.records.specs.declared.descriptor.Stage1.{Stage1}
 use Rattle.records.specs.declared.descriptor.Stage2.{Stage2}
 use Rattle.records.specs.declared.setup.Setup.{Setup}
-use Rattle.rights.proofs.Agree.{none-left}
 use Rattle.rights.specs.Answers.{permitted}
 use Rattle.rights.specs.Promise.{unlessRefused, collect, levelOf, LevelAnswer, Rights, Refused}
 use Rattle.rights.specs.Order.{stagesAnswer}
@@ -49,22 +48,11 @@ module _ (s : Setup) (d : Stage1) (e : Stage2) (t : Limits) (l : Level) where
   unfolding levelOf
   all-is r q = collected (answerTo Read) (answerTo Write) (answerTo Execute) r q
 
-  none-is : (n : ℕ) → levelOf s d e t l ≡ Refused n
-      → three (permitted (answerTo Read)) (permitted (answerTo Write)) (permitted (answerTo Execute)) ≡ three false false false
-  unfolding levelOf
-  none-is n q = none-left s d e t l n q
-
   -- a right of a level is on exactly where its access is permitted
   pub right-is : (r : LevelRights) → levelOf s d e t l ≡ Rights r → (x : Right) → permitted (answerTo x) ≡ hasRight r x
   right-is r q Read = ap (λ (y : LevelRights). y .read) (all-is r q)
   right-is r q Write = ap (λ (y : LevelRights). y .write) (all-is r q)
   right-is r q Execute = ap (λ (y : LevelRights). y .execute) (all-is r q)
-
-  -- a level that is refused permits no access
-  pub refused-permits : (n : ℕ) → levelOf s d e t l ≡ Refused n → (x : Right) → permitted (answerTo x) ≡ false
-  refused-permits n q Read = ap (λ (y : LevelRights). y .read) (none-is n q)
-  refused-permits n q Write = ap (λ (y : LevelRights). y .write) (none-is n q)
-  refused-permits n q Execute = ap (λ (y : LevelRights). y .execute) (none-is n q)
 
   -- a level that is refused has an access that is refused
   pub access-refused : (n : ℕ) → levelOf s d e t l ≡ Refused n → (x : Right) × (answerTo x ≡ answer.Refused n)

@@ -220,18 +220,7 @@ module _ (q : Words) where
   unfolding stage1Pass baseOf setupFrom
   same-first d t = refl
 
-  -- the pass that the code makes gives the answer of a level
-  pub level-masks : (d e t : ℕ) (l : Level)
-      → maskWith (bitOf (controlOf (q .control) .overlay) l) (stage1Mask (stage1Pass firstSetup (stage1Of d) (limitsOf t))) (slotAt (registerOf (q .por) l) (poIndex d))
-      (stage2Mask (stage2Pass (bit (q .control) 2) (stage2Of e))) l
-      ≡ levelMask (levelOf (setupFrom q) (stage1Of d) (stage2Of e) (limitsOf t) l)
-  unfolding setupFrom controlOf stage1Of
-  level-masks d e t l =
-      mask-with (controlOf (q .control) .overlay) (stage1Pass firstSetup (stage1Of d) (limitsOf t)) (slotAt (registerOf (q .por) l) (poIndex d))
-      (stage2Pass (bit (q .control) 2) (stage2Of e)) l (omega arith)
-      ∙ ap levelMask (sym (agree (setupFrom q) (stage1Of d) (stage2Of e) (limitsOf t) l ∙ ap (λ (x : Stage1Pass). passWith (controlOf (q .control) .overlay) x (slotAt (registerOf (q .por) l) (poIndex d)) (stage2Pass (bit (q .control) 2) (stage2Of e)) l) (same-first (stage1Of d) (limitsOf t))))
-
-  -- the same with slot v of a register put in place of that level's POR
+  -- the pass that the code makes gives the answer of a level, with slot v of a register put in place of that level's POR
   pub put-masks : (d e t v r : ℕ) (l : Level) → v < 16 → slotAt r (poIndex d) ≡ v
       → maskWith (bitOf (controlOf (q .control) .overlay) l) (stage1Mask (stage1Pass firstSetup (stage1Of d) (limitsOf t))) v
       (stage2Mask (stage2Pass (bit (q .control) 2) (stage2Of e))) l

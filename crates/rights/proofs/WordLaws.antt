@@ -1,7 +1,7 @@
 -- The word of a leaf gives the answer of each of its accesses: whether it refuses, whether it permits, and its cause. Each part of the word is a step of the
 -- order in which a judgement is made. Assumes nothing.
 use mathlib.Core.Path.{_≡_, refl, sym, ap, _∙_}
-use mathlib.Core.Bool.{Bool, true, false, cond, not, _&&_, _||_}
+use mathlib.Core.Bool.{Bool, true, false, cond, not, _&&_, _||_, and-true, and-assoc}
 use mathlib.Core.List.{List, [], _∷_}
 use Prim.Native.Nat.{ℕ, _%_}
 use native.Mathlib.Omega.{arith}
@@ -23,16 +23,16 @@ use Rattle.records.specs.declared.descriptor.Stage2.{Stage2}
 use Rattle.records.specs.declared.setup.LevelBits.{LevelBits}
 use Rattle.records.specs.declared.setup.Setup.{Setup}
 use Rattle.rights.specs.Answers.{follow, faultUnless, refuseIf, descriptorAnswer}
-use Rattle.rights.specs.Direct.{ap as apOf, apOne, limited, apTable, executeNever, unprivilegedWrite, wxn, pan, directSteps, directOf, directCause}
+use Rattle.rights.specs.Direct.{ap as apOf, apOne, limited, apTable, executeNever, unprivilegedWrite, wxn, pan, directSteps}
 use Rattle.rights.specs.Indirect.{Meaning, grants, reserved, unjudged, meanings, fields, codeOf, codesAt, reservedCode, unjudgedCode, codeRights, codeOverlays}
-use Rattle.rights.specs.Mirror.Lanes.{Agrees, refusedCodes, refusesIn}
-use Rattle.rights.specs.Mirror.Parts.{codePart, codeIf, indirectWord, baseWord, stagesWord, leafWord}
+use Rattle.rights.specs.Mirror.Agreement.{Agrees, refusedCodes, refusesIn}
+use Rattle.rights.specs.Mirror.Parts.{codePart, codeIf, indirectWord, baseWord, stagesWord}
 use Rattle.rights.specs.Mirror.Parts.{executes, statePart, offPart, descriptorPart, limitsPart, lastPart, slotPart, slotIf, stage2Word, slotsWord, directWord, descriptorOf, limitsPartOf}
 use Rattle.rights.specs.Mirror.Words.{Word, joined}
-use Rattle.rights.specs.Order.{stage1If, stage2If, stagesAnswer}
+use Rattle.rights.specs.Order.{stage2If, stagesAnswer}
 use Rattle.rights.specs.Overlay.{slotRights, slotAnswer, overlayAnswer}
-use Rattle.rights.specs.Stage1.{dirty, baseRights, baseCause, overlaysApply, baseAnswer, stage1Answer}
-use Rattle.rights.specs.Stage2.{xnPx, xnUx, stage2Steps, stage2Rights, stage2Cause, stage2Answer}
+use Rattle.rights.specs.Stage1.{dirty, baseRights, baseCause, baseAnswer, stage1Answer}
+use Rattle.rights.specs.Stage2.{xnPx, xnUx, stage2Rights, stage2Cause, stage2Answer}
 use Rattle.rights.specs.Steps.{Step, step, fixed, everything, leftAfter, firstRemover}
 use Rattle.rights.specs.declared.answers.Answer.{Answer}
 use Rattle.rights.specs.declared.indirect.Code.{Code}
@@ -60,10 +60,6 @@ at-access {A} m f g e l x = each m (f l x) (g l x) (pick l x)
     pick Unprivileged Read = ap (nth 3) e
     pick Unprivileged Write = ap (nth 4) e
     pick Unprivileged Execute = ap (nth 5) e
-
-and-true : (b : Bool) → (b && true) ≡ b
-and-true true = refl
-and-true false = refl
 
 follow-follow : (a b c : Answer) → follow (follow a b) c ≡ follow a (follow b c)
 follow-follow Permitted b c = refl
@@ -265,10 +261,6 @@ three-keep true true false m = refl
 three-keep true false c m = refl
 three-keep false b c m = refl
 
-and-and : (a b m : Bool) → ((a && b) && m) ≡ (a && (b && m))
-and-and true b m = refl
-and-and false b m = refl
-
 -- one cause for what either of two parts takes away
 one-cause : (g a b : Bool) (c n : ℕ) → g ≡ (a && b) → cond g 0 1 ≡ n → cond g c n ≡ cond a (cond b c 1) 1
 one-cause g a b c n e f = rw (← f, e) (go a b)
@@ -412,7 +404,7 @@ module _ (s : Setup) (d : Stage1) (t : Limits) (l : Level) (x : Right) (y : Answ
         let g = has (leftAfter everything (grantsBy two)) a in
         let n = firstRemover a everything (grantsBy two) in
         let kept : (m : Bool) → (g && m) ≡ (codePart Privileged cp .keeps a && (codePart Unprivileged (counts two) .keeps a && m)) =
-        λ (m : Bool). ap (λ (b : Bool). b && m) (kept-by two) ∙ and-and (codePart Privileged cp .keeps a) (codePart Unprivileged (counts two) .keeps a) m in
+        λ (m : Bool). ap (λ (b : Bool). b && m) (kept-by two) ∙ and-assoc (codePart Privileged cp .keeps a) (codePart Unprivileged (counts two) .keeps a) m in
         let overlaid : Agrees (follow v y) (o .meets a) (o .right a) (o .cause a) =
         rw (code-overlay (codeAt (s .pir .privileged) (d .piindex)), code-overlay (codeAt (s .pir .unprivileged) (d .piindex)), low (s .pir .privileged), low (s .pir .unprivileged))
         (slots-agrees s d (ltb (codeAt (s .pir .privileged) (d .piindex)) 8) (ltb (codeAt (s .pir .unprivileged) (d .piindex)) 8) w y l x h) in

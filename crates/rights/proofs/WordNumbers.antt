@@ -1,9 +1,9 @@
 -- The number that the code makes of a leaf is that of the leaf's word. Assumes nothing.
 use mathlib.Core.Path.{_≡_, refl, sym, ap, ap₂, _∙_}
-use mathlib.Core.Bool.{Bool, true, false, cond, not, _&&_, _||_}
+use mathlib.Core.Bool.{Bool, true, false, cond, not, _&&_, _||_, and-true, and-false}
 use mathlib.Core.List.{List, [], _∷_, _++_}
 use Prim.Native.Nat.{ℕ, _+_, _*_, _/_, _%_, _^_, _<_}
-use native.Mathlib.Nat.{zero-add, add-zero}
+use native.Mathlib.Nat.{zero-add}
 use native.Mathlib.Omega.{arith}
 use lib.Bits.{bitAnd, bitOr, or-zero-l}
 use lib.Dec.{ltb}
@@ -26,17 +26,9 @@ use Rattle.rights.specs.Mirror.Parts.{statePart, stage2Part, limitsPart,
 use Rattle.rights.specs.Mirror.Parts.{stageWords, slotWords, baseWords, joinAt, wholeNumber, stage2Number, slotIf, slotsNumber, limitsIf, lastIndex, directNumber}
 use Rattle.rights.specs.Mirror.Parts.{codeIf, indirectNumber, stage1Number, offNumber, oneNumber, levelsNumber, leafNumber}
 use Rattle.rights.specs.Mirror.Parts.{stage2Word, slotsWord, directWord, descriptorOf, limitsPartOf, indirectWord, baseWord, offPart, onePart, stagesWord, leafWord}
-use Rattle.rights.specs.Mirror.Words.{Word, Part, whole, joined, wordBits, keepBits, numberOf, keepOf, takeOf, pairs}
+use Rattle.rights.specs.Mirror.Words.{Word, Part, whole, joined, keepBits, numberOf, keepOf, takeOf, pairs}
 use Rattle.rights.specs.Stage1.{dirty}
 use Rattle.rights.proofs.Joins.{join-law, keep-at, join-at}
-
-and-false : (b : Bool) → (b && false) ≡ false
-and-false true = refl
-and-false false = refl
-
-and-true : (b : Bool) → (b && true) ≡ b
-and-true true = refl
-and-true false = refl
 
 number-cond : (b : Bool) (x y : Word) → cond b (numberOf x) (numberOf y) ≡ numberOf (cond b x y)
 number-cond true x y = refl

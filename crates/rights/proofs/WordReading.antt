@@ -1,8 +1,8 @@
 -- What is read from the number of a word: a cause's byte, the rights, and whether something is refused. Assumes nothing.
 use mathlib.Core.Path.{_≡_, refl, ap, _∙_}
-use mathlib.Core.Bool.{Bool, false, not}
-use mathlib.Core.List.{List, [], _∷_}
-use Prim.Native.Nat.{ℕ, zero, suc, _*_, _/_, _%_, _^_, _<_}
+use mathlib.Core.Bool.{not}
+use mathlib.Core.List.{[]}
+use Prim.Native.Nat.{ℕ, _*_, _/_, _%_, _^_, _<_}
 use lib.Dec.{eqb}
 use lib.ListN.{take, drop}
 use Rattle.records.proofs.BitLaws.{low-bits, high-bits, some, none-bits}

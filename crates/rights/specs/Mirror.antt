@@ -7,4 +7,4 @@ pub mod Masks
 pub mod Table
 pub mod Words
 pub mod Parts
-pub mod Lanes
+pub mod Agreement

@@ -18,7 +18,7 @@ use records::setup::Control;
 use records::setup::Setup;
 
 // No access is taken away.
-const OPEN: u64 = 0x703F_0000_0000_0000;
+const WHOLE: u64 = 0x703F_0000_0000_0000;
 
 // The two words of a field at index `i`, before the word of what follows.
 fn join(t: &[u64; 64], i: usize, w: u64) -> u64
@@ -41,10 +41,10 @@ fn stage2_word(t: &[u64; 96], on: bool, e: u64) -> u64
     ensures { λ r. ⌜ r ≡ stage2Number (now (t .entry)) on e ⌝ }
 {
     if on {
-        let left = join_stage(t, 32 + permissions(e) * 2, OPEN);
+        let left = join_stage(t, 32 + permissions(e) * 2, WHOLE);
         return join_stage(t, 16 + state(e) * 2, left);
     }
-    OPEN
+    WHOLE
 }
 
 // The slot that counts: 7, which stops nothing, where no overlay applies.

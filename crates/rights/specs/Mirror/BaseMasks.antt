@@ -1,4 +1,4 @@
--- Rights as bits of a number, and the tables of the one pass over a leaf. Nothing here needs to be believed: the laws of proofs/BaseMasks say that
+-- Rights as bits of a number, and the tables of the planner's pass. Nothing here needs to be believed: the laws of proofs/BaseMasks say that
 -- they give what `directOf` and `indirectStep` give. Assumes nothing.
 use Prim.Native.Nat.{ℕ, _+_, _*_, _/_, _%_, _^_}
 use mathlib.Core.List.{List, [], _∷_}

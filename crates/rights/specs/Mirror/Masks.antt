@@ -1,4 +1,4 @@
--- The one pass as the code makes it, with rights as bits of a number. Nothing here needs to be believed: the laws of proofs/Masks say that it gives
+-- The planner's pass as the code makes it, with rights as bits of a number. Nothing here needs to be believed: the laws of proofs/Masks say that it gives
 -- what Pass has. Assumes nothing.
 use Prim.Native.Nat.{ℕ}
 use mathlib.Core.Bool.{Bool, cond, not, _&&_}

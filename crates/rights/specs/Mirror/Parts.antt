@@ -21,7 +21,6 @@ use Rattle.records.specs.declared.descriptor.Stage1.{Stage1}
 use Rattle.records.specs.declared.descriptor.Stage2.{Stage2}
 use Rattle.records.specs.declared.leaf.Leaf.{Leaf}
 use Rattle.records.specs.declared.setup.Control.{Control}
-use Rattle.records.specs.declared.setup.LevelBits.{LevelBits}
 use Rattle.records.specs.declared.setup.Setup.{Setup}
 use Rattle.rights.specs.Direct.{ap, apOne, limited, apTable, executeNever, unprivilegedWrite, wxn, pan}
 use Rattle.rights.specs.Indirect.{codeOf}

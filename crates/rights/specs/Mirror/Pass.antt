@@ -1,4 +1,4 @@
--- One pass over all accesses of a level. Nothing here needs to be believed: the law `agree` of proofs/Agree says that it gives `levelOf`.
+-- The planner's pass over all accesses of a level. Nothing here needs to be believed: the law `agree` of proofs/Agree says that it gives `levelOf`.
 -- Assumes nothing.
 use Rattle.records.specs.declared.access.Rights.{Rights as SixRights}
 use Prim.Native.Nat.{ℕ}
@@ -21,14 +21,6 @@ use Rattle.rights.specs.Promise.{LevelAnswer, levelOf}
 use Rattle.rights.specs.Stage1.{dirty}
 use Rattle.rights.specs.Stage2.{stage2Rights}
 use Rattle.rights.specs.Steps.{everything}
-
--- the rights of both levels of a leaf
-pub record LeafLevels : Type 0 where
-  pub privileged : LevelAnswer
-  pub unprivileged : LevelAnswer
-
-unfoldable pub levelsOf : Setup → Stage1 → Stage2 → Limits → LeafLevels
-levelsOf s d e t = record { privileged = levelOf s d e t Privileged; unprivileged = levelOf s d e t Unprivileged }
 
 -- stage 1 for all accesses: base rights, a fault of every access, or a refusal of every access
 pub data Stage1Pass : Type 0 where

@@ -2,7 +2,7 @@
 -- of access a, in bits 48 to 53 the rights, in bits 54 to 59 the accesses that meet a refusal, in bits 60 to 62 what refuses a pair of base codes. Nothing here
 -- needs to be believed: `word-law` of proofs/WordLaws says that a leaf's word gives the answers of its accesses. Assumes nothing.
 use Prim.Native.Nat.{ℕ, zero, suc}
-use mathlib.Core.Bool.{Bool, true, false, cond, not, _&&_, _||_}
+use mathlib.Core.Bool.{Bool, true, false, cond, _&&_, _||_}
 use mathlib.Core.List.{List, [], _∷_}
 use Rattle.records.specs.Access.{accesses}
 use Rattle.records.specs.Bits.{bit}

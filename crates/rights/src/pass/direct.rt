@@ -31,7 +31,7 @@ fn level_place(two: bool, k: usize) -> usize
 }
 
 // With one level no unprivileged right is left.
-pub fn level_part(two: bool, m: u8) -> u8
+fn level_part(two: bool, m: u8) -> u8
     ensures { λ r. ⌜ r ≡ levelPart two m ⌝ }
 {
     if two {

@@ -35,7 +35,7 @@ fn stage2_left(r: u8, t: Mask, l: Level) -> Mask
 }
 
 // What slot `v` grants; everything where no overlay applies.
-pub fn slot_bits(on: bool, v: u8) -> u8
+pub(crate) fn slot_bits(on: bool, v: u8) -> u8
     ensures { λ r. ⌜ (r ≡ grants on v) × (r < 8) ⌝ }
 {
     let i = (v % 8) as usize;
@@ -55,7 +55,7 @@ fn slot_left(r: u8, on: bool, v: u8, t: Mask, l: Level) -> Mask
 }
 
 // The level's rights with slot `v`, from both stages; `on` is whether that level's overlay is.
-pub fn level_mask(on: bool, first: Mask, v: u8, t: Mask, l: Level) -> Mask
+pub(crate) fn level_mask(on: bool, first: Mask, v: u8, t: Mask, l: Level) -> Mask
     ensures { λ x. ⌜ x ≡ maskWith on first v t l ⌝ }
 {
     match first {

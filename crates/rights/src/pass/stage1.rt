@@ -7,7 +7,7 @@ use crate::pass::Mask;
 use records::descriptor::index::PIIndex;
 
 // The mask of a number: rights below 256, or 256 times the number of a refusal.
-pub fn mask_of(x: u16) -> Mask
+pub(crate) fn mask_of(x: u16) -> Mask
     ensures { λ r. ⌜ r ≡ maskOf x ⌝ }
 {
     if x < 256 {
@@ -28,7 +28,7 @@ fn direct_word(base: &[u16; 16], w: u32, d: u64, t: u8) -> u16
 
 // Stage 1 up to the overlay by a setup's table: `w` is the control word, `d` is the descriptor and `t` the limits. 1792 is refusal 7, for dirty
 // state.
-pub fn stage1_word(base: &[u16; 16], w: u32, d: u64, t: u8) -> u16
+pub(crate) fn stage1_word(base: &[u16; 16], w: u32, d: u64, t: u8) -> u16
     ensures { λ r. ⌜ r ≡ stage1Word (now (base .entry)) w d t ⌝ }
 {
     if (w >> 1) % 2 == 1 {

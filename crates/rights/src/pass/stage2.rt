@@ -10,7 +10,7 @@ use crate::pass::Mask;
 const STAGE2: [u8; 16] = [36, 45, 54, 63, 32, 41, 50, 59, 0, 9, 18, 27, 4, 13, 22, 31];
 
 // Stage 2: `w` is the control word, `e` is the descriptor.
-pub fn stage2_mask(w: u32, e: u64) -> Mask
+pub(crate) fn stage2_mask(w: u32, e: u64) -> Mask
     ensures { λ r. ⌜ r ≡ stage2Mask (stage2Pass (bit w 2) (stage2Of e)) ⌝ }
 {
     if (w >> 2) % 2 == 1 {

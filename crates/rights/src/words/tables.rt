@@ -173,7 +173,7 @@ const SLOTS: [u64; 64] = [
 ];
 
 // Base codes (1). Bits 60 and 61: the code is refused; bit 62: px of the privileged code, uw of the unprivileged one.
-const CODES: [u64; 64] = [
+const CODE_WORDS: [u64; 64] = [
     0x2E38_FFFF_FF00_0000,
     0x0000_0000_0001_0101, // privileged code 0
     0x2E79_FFFF_FF00_00FF,
@@ -395,7 +395,7 @@ pub fn base_words(indirect: bool, two: bool) -> [u64; 64]
     ensures { λ r. ⌜ r ≡ baseWords indirect two ⌝ }
 {
     if indirect {
-        return CODES;
+        return CODE_WORDS;
     }
     if two {
         return TWO_LEVELS;

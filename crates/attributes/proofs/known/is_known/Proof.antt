@@ -1,7 +1,7 @@
 -- `is_known` meets its contract: joined entries are 0 where each is. Assumes nothing.
 use borrow.Author.Needs.{needs}
 use Rattle.attributes.specs.Mirror.Known.{knownWith}
-use Rattle.attributes.proofs.KnownLaws.{or-none}
+use Rattle.records.proofs.BitLaws.{or-none}
 use Rattle.attributes.proofs.known.is_known.Statement.{statement}
 use Rattle.attributes.proofs.known.is_known.Tie as tie
 

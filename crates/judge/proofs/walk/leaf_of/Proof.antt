@@ -6,8 +6,8 @@ use Rattle.records.specs.Leaf.{leafAt}
 use Rattle.records.specs.declared.leaf.LeafRead.the-variants.{Read}
 use Rattle.judge.proofs.Steps.{leaf-part}
 use borrow.Author.Needs.{needs}
-use Rattle.judge.proofs.fill.leaf_of.Statement.{statement}
-use Rattle.judge.proofs.fill.leaf_of.Tie as tie
+use Rattle.judge.proofs.walk.leaf_of.Statement.{statement}
+use Rattle.judge.proofs.walk.leaf_of.Tie as tie
 
 read : (c : tie.After-read-leaf) → c .read-leaf .result ≡ Read (leafAt (now (c .before .before .before .args .leaves)) (c .before .before .before .args .i))
 read c = c .read-leaf .ensures ∙ leaf-part _ _ (c .before .before .before .pre)
