@@ -1,10 +1,10 @@
 -- The word of a leaf gives its rights and causes, or marks that one of its accesses is refused. Assumes nothing.
 use mathlib.Core.Path.{_≡_, refl, sym, ap, ap₂, _∙_}
-use mathlib.Core.Bool.{Bool, true, false, cond, not, _&&_, _||_}
+use mathlib.Core.Bool.{Bool, true, false, cond, not, _&&_, _||_, and-true}
 use mathlib.Core.List.{List, [], _∷_}
 use Prim.Native.Nat.{ℕ, _+_, _*_, _/_, _%_, _^_, _≤_, _<_}
 use native.Mathlib.Omega.{arith}
-use lib.Bits.{bitOr}
+use lib.Bits.{bitOr, bitXor}
 use lib.Dec.{eqb, leb, ltb}
 use lib.ListN.{getD}
 use borrow.Author.Tests.{eqb-true, eq-eqb, ne-eqb, ltb-true, ltb-false, le-leb, leb-true}
@@ -20,13 +20,13 @@ use Rattle.records.specs.declared.leaf.Leaf.{Leaf}
 use Rattle.records.specs.declared.setup.Setup.{Setup}
 use Rattle.rights.proofs.Named.{Named, permits, faults, refuses, stage1-named, stage2-named, cause-fixes, Fixed}
 use Rattle.rights.proofs.OrderLaws.{stages-as}
-use Rattle.rights.proofs.WordLaws.{word-law}
-use Rattle.rights.proofs.WordReading.{cause-in, rights-in, refused-in, any-in}
+use Rattle.rights.proofs.WordLaws.{word-law, stages-known}
+use Rattle.rights.proofs.WordReading.{refusals, cause-in, rights-in, refused-in}
 use Rattle.rights.specs.Answers.{follow, answerOf}
 use Rattle.rights.specs.Checks.{setupCheck, accessCheck, leafCheck}
 use Rattle.rights.specs.Mirror.Agreement.{Agrees, refusedCodes, refusesIn}
-use Rattle.rights.specs.Mirror.Parts.{onePart, stagesWord, leafWord}
-use Rattle.rights.specs.Mirror.Words.{Word, joined, sixBits, threeCodes, numberOf}
+use Rattle.rights.specs.Mirror.Parts.{onePart, knownPart, stagesWord, leafWord}
+use Rattle.rights.specs.Mirror.Words.{Word, joined, sixBits, numberOf}
 use Rattle.rights.specs.Order.{leafAnswer, rightsAnswer}
 use Rattle.rights.specs.declared.answers.Answer.{Answer}
 use Rattle.rights.specs.declared.answers.Answer.the-variants as answer
@@ -39,7 +39,7 @@ use Rattle.judge.specs.Demands.{isJudged}
 use Rattle.judge.specs.Judge.{fetches, combined, afterRights, judged}
 use Rattle.judge.specs.LeafRights.{add, gather, judgedAccesses, leafRights}
 use Rattle.judge.specs.List.{causeAt}
-use Rattle.judge.specs.Mirror.Words.{markOf, knownOf, rightsIn, causeIn}
+use Rattle.judge.specs.Mirror.Words.{marksIn, markOf, knownOf, wordOf, rightsIn, causeIn}
 use Rattle.judge.specs.declared.answers.Judgement.{Judgement}
 use Rattle.judge.specs.declared.answers.Judgement.the-variants as judgement
 use Rattle.judge.specs.declared.answers.LeafRights.{LeafRights}
@@ -116,19 +116,17 @@ above-clear n m q f g = go (ltb m n) refl
 abbrev over : Leaf → Bool
 over f = ltb 15 (f .limits) || ltb 63 (f .forbidden)
 
-abbrev seen : Word → Bool → Bool
-seen w known = cond known (some (sixBits (w .meets) (threeCodes (w .codes)))) (some (sixBits (w .right) (sixBits (w .meets) (threeCodes (w .codes)))))
+abbrev seen : Word → Bool
+seen w = some (refusals w)
 
-mark-is : (w : Word) (known : Bool) (f : Leaf) → eqb (markOf (numberOf w) known f) 0 ≡ not (seen w known || over f)
-mark-is w known f =
-    or-none (cond known (numberOf w / 2 ^ 54) (numberOf w / 2 ^ 48)) (bitOr (f .limits / 2 ^ 4) (f .forbidden / 2 ^ 6))
-    ∙ ap₂ _&&_ (by-known known) (or-none (f .limits / 2 ^ 4) (f .forbidden / 2 ^ 6) ∙ ap₂ _&&_ (above-clear (f .limits) 15 (f .limits / 2 ^ 4) (λ e. omega arith) (λ e. omega arith)) (above-clear (f .forbidden) 63 (f .forbidden / 2 ^ 6) (λ e. omega arith) (λ e. omega arith)))
-    ∙ nots (seen w known) (ltb 15 (f .limits)) (ltb 63 (f .forbidden))
+mark-is : (w : Word) (f : Leaf) → eqb (markOf (numberOf w) f) 0 ≡ not (seen w || over f)
+unfolding marksIn
+mark-is w f =
+    let x = bitXor (numberOf w / 2 ^ 48) (numberOf w / 2 ^ 56) in
+    or-none (bitOr (x % 2 ^ 8) (x / 2 ^ 14)) (bitOr (f .limits / 2 ^ 4) (f .forbidden / 2 ^ 6))
+    ∙ ap₂ _&&_ (refused-in w) (or-none (f .limits / 2 ^ 4) (f .forbidden / 2 ^ 6) ∙ ap₂ _&&_ (above-clear (f .limits) 15 (f .limits / 2 ^ 4) (λ e. omega arith) (λ e. omega arith)) (above-clear (f .forbidden) 63 (f .forbidden / 2 ^ 6) (λ e. omega arith) (λ e. omega arith)))
+    ∙ nots (seen w) (ltb 15 (f .limits)) (ltb 63 (f .forbidden))
   where
-    by-known : (k : Bool) → eqb (cond k (numberOf w / 2 ^ 54) (numberOf w / 2 ^ 48)) 0 ≡ not (seen w k)
-    by-known true = refused-in w
-    by-known false = any-in w
-
     nots : (a b c : Bool) → (not a && (not b && not c)) ≡ not (a || (b || c))
     nots true b c = refl
     nots false true c = refl
@@ -160,10 +158,9 @@ before-three p q r z =
     each (p ∷ q ∷ r ∷ z ∷ []) (λ (v : List Bool). b v 0 || (b v 1 || (b v 2 || b v 3))) (λ (v : List Bool). (b v 0 || (b v 1 || (b v 2 || false))) || b v 3) refl
 
 -- what a leaf's mark says of its accesses
-marks : (o x y z m r k : Bool) → (o || ((x || (y || z)) || (m || (r && not k)))) ≡ (cond k (m || (x || (y || (z || false)))) (r || (m || (x || (y || (z || false))))) || o)
-marks o x y z m r k =
-    each (o ∷ x ∷ y ∷ z ∷ m ∷ r ∷ k ∷ []) (λ (v : List Bool). b v 0 || ((b v 1 || (b v 2 || b v 3)) || (b v 4 || (b v 5 && not (b v 6)))))
-    (λ (v : List Bool). cond (b v 6) (b v 4 || (b v 1 || (b v 2 || (b v 3 || false)))) (b v 5 || (b v 4 || (b v 1 || (b v 2 || (b v 3 || false))))) || b v 0) refl
+marks : (o x y z r : Bool) → (o || ((x || (y || z)) || r)) ≡ ((r || (x || (y || (z || false)))) || o)
+marks o x y z r =
+    each (o ∷ x ∷ y ∷ z ∷ r ∷ []) (λ (v : List Bool). b v 0 || ((b v 1 || (b v 2 || b v 3)) || b v 4)) (λ (v : List Bool). (b v 4 || (b v 1 || (b v 2 || (b v 3 || false)))) || b v 0) refl
 
 -- an access among others
 abbrev member : ℕ → List ℕ → Bool
@@ -212,51 +209,54 @@ module _ (s : Setup) (f : Leaf) (ok : setupCheck (s .control) ≡ check.Passes) 
   abbrev rightAt : ℕ → Bool
   rightAt n = w .right (accessAt n)
 
+  abbrev refusedHere : ℕ → Bool
+  refusedHere n = meetsAt n || (rightAt n && not known)
+
   abbrev codesTail : Bool
-  codesTail = some (threeCodes (w .codes))
+  codesTail = some (w .codes 0 ∷ w .codes 1 ∷ w .codes 2 ∷ [])
 
   -- all judged accesses of a leaf, with two levels and with one
-  marked : (l : List ℕ) (z : Word) → seen z known ≡ cond known (someOf meetsAt (0 ∷ l) || codesTail) (someOf rightAt (0 ∷ l) || (someOf meetsAt (0 ∷ l) || codesTail))
-      → someOf refusesAt (0 ∷ l) ≡ (seen z known || over f)
+  abbrev SeenBy : Word → List ℕ → Type 0
+  SeenBy z l = seen z ≡ (someOf refusedHere l || codesTail)
+
+  marked : (l : List ℕ) (z : Word) → SeenBy z (0 ∷ l) → someOf refusesAt (0 ∷ l) ≡ (seen z || over f)
   marked l z e =
       spread (over f) (refusedCodes w) (not known) meetsAt rightAt 0 l
-      ∙ marks (over f) (w .codes 0) (w .codes 1) (w .codes 2) (someOf meetsAt (0 ∷ l)) (someOf rightAt (0 ∷ l)) known ∙ ap (λ (x : Bool). x || over f) (sym e)
+      ∙ ap (λ (x : Bool). over f || (refusedCodes w || x)) (sym (spread false false (not known) meetsAt rightAt 0 l))
+      ∙ marks (over f) (w .codes 0) (w .codes 1) (w .codes 2) (someOf refusedHere (0 ∷ l)) ∙ ap (λ (x : Bool). x || over f) (sym e)
 
   abbrev Judgeds : List ℕ → Type 0
   Judgeds l = Each (λ (n : ℕ). Judged (judged s f n) (refusesAt n) (rightAt n) (w .cause (accessAt n))) l
 
   abbrev Gives : Word → List ℕ → Type 0
-  Gives z l = Gathered (seen z known || over f) (gather (judged s f) l) (bits (sixBits (z .right) []))
+  Gives z l = Gathered (seen z || over f) (gather (judged s f) l) (bits (sixBits (z .right) []))
 
-  gives : (l : List ℕ) (z : Word) → Judgeds (0 ∷ l)
-      → seen z known ≡ cond known (someOf meetsAt (0 ∷ l) || codesTail) (someOf rightAt (0 ∷ l) || (someOf meetsAt (0 ∷ l) || codesTail))
-      → sumOf rightAt (0 ∷ l) ≡ bits (sixBits (z .right) []) → Gives z (0 ∷ l)
+  gives : (l : List ℕ) (z : Word) → Judgeds (0 ∷ l) → SeenBy z (0 ∷ l) → sumOf rightAt (0 ∷ l) ≡ bits (sixBits (z .right) []) → Gives z (0 ∷ l)
   gives l z h e g = rw (← marked l z e, ← g) (gathered (judged s f) refusesAt rightAt (λ (n : ℕ). w .cause (accessAt n)) (0 ∷ l) h)
 
-  abbrev SeenBy : Word → List ℕ → Type 0
-  SeenBy z l = seen z known ≡ cond known (someOf meetsAt l || codesTail) (someOf rightAt l || (someOf meetsAt l || codesTail))
+  -- the word with what is known of the memory, with two levels and with one
+  abbrev whole : Bool → Word
+  whole two = joined (knownPart known) (cond two w (joined onePart w))
 
-  seen-two : SeenBy w (judgedAccesses true)
-  seen-two =
-      let m = before (meetsAt 0) (meetsAt 1) (meetsAt 2) (meetsAt 3) (meetsAt 4) (meetsAt 5) codesTail in
-      ap₂ (cond known) m
-      (before (rightAt 0) (rightAt 1) (rightAt 2) (rightAt 3) (rightAt 4) (rightAt 5) _ ∙ ap (λ (x : Bool). someOf rightAt (judgedAccesses true) || x) m)
+  here : (known && w .known) ≡ known
+  here = rw (stages-known s (stage1Of (f .stage1)) (stage2Of (f .stage2)) (limitsOf (f .limits))) (and-true known)
 
-  seen-one : SeenBy (joined onePart w) (judgedAccesses false)
-  seen-one =
-      let m = before-three (meetsAt 0) (meetsAt 1) (meetsAt 2) codesTail in
-      ap₂ (cond known) m (before-three (rightAt 0) (rightAt 1) (rightAt 2) _ ∙ ap (λ (x : Bool). someOf rightAt (judgedAccesses false) || x) m)
+  seen-two : SeenBy (whole true) (judgedAccesses true)
+  seen-two = rw here (before (refusedHere 0) (refusedHere 1) (refusedHere 2) (refusedHere 3) (refusedHere 4) (refusedHere 5) codesTail)
 
-  leaf-gathers : (two : Bool) → s .control .two ≡ two → Gives (cond two w (joined onePart w)) (judgedAccesses two)
+  seen-one : SeenBy (whole false) (judgedAccesses false)
+  seen-one = rw here (before-three (refusedHere 0) (refusedHere 1) (refusedHere 2) codesTail)
+
+  leaf-gathers : (two : Bool) → s .control .two ≡ two → Gives (whole two) (judgedAccesses two)
   leaf-gathers true e =
-      gives (1 ∷ 2 ∷ 3 ∷ 4 ∷ 5 ∷ []) w (j 0 refl, (j 1 refl, (j 2 refl, (j 3 refl, (j 4 refl, (j 5 refl, tt {0})))))) seen-two
+      gives (1 ∷ 2 ∷ 3 ∷ 4 ∷ 5 ∷ []) (whole true) (j 0 refl, (j 1 refl, (j 2 refl, (j 3 refl, (j 4 refl, (j 5 refl, tt {0})))))) seen-two
       (each (rightAt 0 ∷ rightAt 1 ∷ rightAt 2 ∷ rightAt 3 ∷ rightAt 4 ∷ rightAt 5 ∷ []) (λ (v : List Bool). sumOf (b v) (judgedAccesses true))
       (λ (v : List Bool). bits (b v 0 ∷ b v 1 ∷ b v 2 ∷ b v 3 ∷ b v 4 ∷ b v 5 ∷ [])) refl)
     where
       j : (n : ℕ) → leb n 5 ≡ true → Judged (judged s f n) (refusesAt n) (w .right (accessAt n)) (w .cause (accessAt n))
       j n h = at-access n (rw e h)
   leaf-gathers false e =
-      gives (1 ∷ 2 ∷ []) (joined onePart w) (j 0 refl, (j 1 refl, (j 2 refl, tt {0}))) seen-one
+      gives (1 ∷ 2 ∷ []) (whole false) (j 0 refl, (j 1 refl, (j 2 refl, tt {0}))) seen-one
       (each (rightAt 0 ∷ rightAt 1 ∷ rightAt 2 ∷ []) (λ (v : List Bool). sumOf (b v) (judgedAccesses false)) (λ (v : List Bool). bits (b v 0 ∷ b v 1 ∷ b v 2 ∷ false ∷ false ∷ false ∷ [])) refl)
     where
       j : (n : ℕ) → leb n 2 ≡ true → Judged (judged s f n) (refusesAt n) (w .right (accessAt n)) (w .cause (accessAt n))
@@ -283,39 +283,34 @@ module _ (s : Setup) (f : Leaf) (ok : setupCheck (s .control) ≡ check.Passes) 
   not-judged n h = rw (ok, h)
 
   -- the causes of a leaf of which no access is refused
-  causes-two : s .control .two ≡ true → someOf refusesAt (judgedAccesses true) ≡ false → (a : ℕ) → a < 6 → causeIn (numberOf w) a ≡ judgementValues (judged s f a) .cause
+  causes-two : s .control .two ≡ true → someOf refusesAt (judgedAccesses true) ≡ false → (a : ℕ) → a < 6 → causeIn (numberOf (whole true)) a ≡ judgementValues (judged s f a) .cause
   causes-two e h a g =
       let c = judged-cause a (rw e (le-leb a 5 (omega arith)))
       (none-refused refusesAt (judgedAccesses true) h a (at 6 (λ (k : ℕ). member k (judgedAccesses true)) (λ (k : ℕ). true) refl a g)) in
-      cause-in w a g (c .0) ∙ c .1
+      cause-in (whole true) a g (c .0) ∙ c .1
 
   causes-one : s .control .two ≡ false → someOf refusesAt (judgedAccesses false) ≡ false → (a : ℕ) → a < 6
-      → causeIn (numberOf (joined onePart w)) a ≡ judgementValues (judged s f a) .cause
+      → causeIn (numberOf (whole false)) a ≡ judgementValues (judged s f a) .cause
   causes-one e h a g = go (leb a 2) refl
     where
-      z : Word
-      z = joined onePart w
-
-      go : (x : Bool) → leb a 2 ≡ x → causeIn (numberOf (joined onePart w)) a ≡ judgementValues (judged s f a) .cause
+      go : (x : Bool) → leb a 2 ≡ x → causeIn (numberOf (whole false)) a ≡ judgementValues (judged s f a) .cause
       go true q =
           let k = leb-true a 2 q in
           let c = judged-cause a (rw e q) (none-refused refusesAt (judgedAccesses false) h a (at 3 (λ (k : ℕ). member k (judgedAccesses false)) (λ (k : ℕ). true) refl a (omega arith))) in
-          let n = at 3 (λ (k : ℕ). joined onePart w .cause (accessAt k)) (λ (k : ℕ). w .cause (accessAt k)) refl a (omega arith) in
-          cause-in (joined onePart w) a g (rw n (c .0)) ∙ n ∙ c .1
+          let n = at 3 (λ (k : ℕ). whole false .cause (accessAt k)) (λ (k : ℕ). w .cause (accessAt k)) refl a (omega arith) in
+          cause-in (whole false) a g (rw n (c .0)) ∙ n ∙ c .1
       go false q =
-          let n : joined onePart w .cause (accessAt a) ≡ 0 =
-          rw q at (at 6 (λ (k : ℕ). cond (leb k 2) 0 (joined onePart w .cause (accessAt k))) (λ (k : ℕ). 0) refl a g) in
-          cause-in (joined onePart w) a g (rw n (omega arith)) ∙ n ∙ sym (not-judged a (rw e q))
+          let n : whole false .cause (accessAt a) ≡ 0 =
+          rw q at (at 6 (λ (k : ℕ). cond (leb k 2) 0 (whole false .cause (accessAt k))) (λ (k : ℕ). 0) refl a g) in
+          cause-in (whole false) a g (rw n (omega arith)) ∙ n ∙ sym (not-judged a (rw e q))
 
-  refused-two : someOf refusesAt (judgedAccesses true) ≡ (seen w known || over f)
-  refused-two = marked (1 ∷ 2 ∷ 3 ∷ 4 ∷ 5 ∷ []) w seen-two
-
-  refused-one : someOf refusesAt (judgedAccesses false) ≡ (seen (joined onePart w) known || over f)
-  refused-one = marked (1 ∷ 2 ∷ []) (joined onePart w) seen-one
+  refused-by : (two : Bool) → someOf refusesAt (judgedAccesses two) ≡ (seen (whole two) || over f)
+  refused-by true = marked (1 ∷ 2 ∷ 3 ∷ 4 ∷ 5 ∷ []) (whole true) seen-two
+  refused-by false = marked (1 ∷ 2 ∷ []) (whole false) seen-one
 
   -- A LEAF WHOSE MARK IS 0 has the rights and the causes of its word; any other is refused
   abbrev found : ℕ
-  found = numberOf (leafWord s f)
+  found = numberOf (wordOf s f)
 
   unmarked : (x : Bool) (n : ℕ) (y : Bool) → eqb n 0 ≡ not x → eqb n 0 ≡ y → x ≡ not y
   unmarked true n true e f = sym f ∙ e
@@ -323,24 +318,27 @@ module _ (s : Setup) (f : Leaf) (ok : setupCheck (s .control) ≡ check.Passes) 
   unmarked false n true e f = refl
   unmarked false n false e f = sym f ∙ e
 
-  pub word-clear : eqb (markOf found known f) 0 ≡ true → (leafRights s f ≡ Rights (rightsIn found)) × ((a : ℕ) → a < 6 → causeIn found a ≡ causeAt s f a)
+  none-seen : (x y : Bool) → (x || y) ≡ false → x ≡ false
+  none-seen true y e = e
+  none-seen false y e = refl
+
+  causes-by : (two : Bool) → s .control .two ≡ two → someOf refusesAt (judgedAccesses two) ≡ false → (a : ℕ) → a < 6 → causeIn (numberOf (whole two)) a ≡ judgementValues (judged s f a) .cause
+  causes-by true = causes-two
+  causes-by false = causes-one
+
+  pub word-clear : eqb (markOf found f) 0 ≡ true → (leafRights s f ≡ Rights (rightsIn found)) × ((a : ℕ) → a < 6 → causeIn found a ≡ causeAt s f a)
   unfolding leafWord leafRights causeAt
   word-clear = go (s .control .two) refl
     where
-      go : (two : Bool) → s .control .two ≡ two → let z = cond two w (joined onePart w) in eqb (markOf (numberOf z) known f) 0 ≡ true
-          → (gather (judged s f) (judgedAccesses two) ≡ Rights (rightsIn (numberOf z))) × ((a : ℕ) → a < 6 → causeIn (numberOf z) a ≡ judgementValues (judged s f a) .cause)
-      go true e h =
-          let x = unmarked (seen w known || over f) (markOf (numberOf w) known f) true (mark-is w known f) h in
-          (rw (rights-in w) (rw x at (leaf-gathers true e)), causes-two e (refused-two ∙ x))
-      go false e h =
-          let x = unmarked (seen (joined onePart w) known || over f) (markOf (numberOf (joined onePart w)) known f) true (mark-is (joined onePart w) known f) h in
-          (rw (rights-in (joined onePart w)) (rw x at (leaf-gathers false e)), causes-one e (refused-one ∙ x))
+      go : (two : Bool) → s .control .two ≡ two → eqb (markOf (numberOf (whole two)) f) 0 ≡ true
+          → (gather (judged s f) (judgedAccesses two) ≡ Rights (rightsIn (numberOf (whole two)))) × ((a : ℕ) → a < 6 → causeIn (numberOf (whole two)) a ≡ judgementValues (judged s f a) .cause)
+      go two e h =
+          let x = unmarked (seen (whole two) || over f) (markOf (numberOf (whole two)) f) true (mark-is (whole two) f) h in
+          (rw (rights-in (whole two) (none-seen (seen (whole two)) (over f) x)) (rw x at (leaf-gathers two e)), causes-by two e (refused-by two ∙ x))
 
-  pub word-refused : eqb (markOf found known f) 0 ≡ false → (k : ℕ) × (leafRights s f ≡ Refused k)
+  pub word-refused : eqb (markOf found f) 0 ≡ false → (k : ℕ) × (leafRights s f ≡ Refused k)
   unfolding leafWord leafRights
   word-refused = go (s .control .two) refl
     where
-      go : (two : Bool) → s .control .two ≡ two → let z = cond two w (joined onePart w) in eqb (markOf (numberOf z) known f) 0 ≡ false
-          → (k : ℕ) × (gather (judged s f) (judgedAccesses two) ≡ Refused k)
-      go true e h = rw (unmarked (seen w known || over f) (markOf (numberOf w) known f) false (mark-is w known f) h) at (leaf-gathers true e)
-      go false e h = rw (unmarked (seen (joined onePart w) known || over f) (markOf (numberOf (joined onePart w)) known f) false (mark-is (joined onePart w) known f) h) at (leaf-gathers false e)
+      go : (two : Bool) → s .control .two ≡ two → eqb (markOf (numberOf (whole two)) f) 0 ≡ false → (k : ℕ) × (gather (judged s f) (judgedAccesses two) ≡ Refused k)
+      go two e h = rw (unmarked (seen (whole two) || over f) (markOf (numberOf (whole two)) f) false (mark-is (whole two) f) h) at (leaf-gathers two e)

@@ -8,35 +8,37 @@ ghost use Rattle.records.specs.Leaf.{leafCount};
 ghost use Rattle.records.specs.declared.check.Check.the-variants.{Passes};
 ghost use Rattle.rights.specs.Checks.{setupCheck};
 ghost use Rattle.judge.specs.List.{leavesOf};
-ghost use Rattle.judge.specs.Mirror.Words.{markOf, putAt, Tables, clear, Found};
+ghost use Rattle.judge.specs.Mirror.Words.{marksIn, total, putAt, Tables, clear, Found};
 use crate::answers::Listed;
 use crate::walk::first_refusal;
 use crate::walk::leaf_of;
 use attributes::known::is_known;
 use attributes::known::memory_table;
-use records::leaf::Leaf;
 use records::number::wide;
 use records::setup::Setup;
+use rights::words::known_word;
 use rights::words::leaf_word;
 use rights::words::tables::base_words;
 use rights::words::tables::slot_words;
 use rights::words::tables::stage_words;
 
-// Not 0 exactly where a leaf is refused: limits or forbidden bits are too high, its word `w` has an access that meets a refusal or refused base codes, or an
-// access has a right to memory that is not known.
-fn mark(w: u64, known: bool, l: Leaf) -> u64
-    ensures { λ r. ⌜ r ≡ markOf w known l ⌝ }
+// The marks of a word: bits 0 to 7 and 14 are 0 exactly where no access is open and not good and no base codes are refused.
+fn marks_in(w: u64) -> u64
+    ensures { λ r. ⌜ r ≡ marksIn w ⌝ }
 {
-    let over = (wide(l.limits) >> 4) | (wide(l.forbidden) >> 6);
-    if known {
-        return (w >> 54) | over;
-    }
-    (w >> 48) | over
+    (w >> 48) ^ (w >> 56)
 }
 
-// The six causes of a word, from index `at` on.
+// Not 0 exactly where `marks` has a mark, or limits or forbidden bits are too high.
+fn sum_up(marks: u64, limits: u8, forbidden: u8) -> u64
+    ensures { λ r. ⌜ r ≡ total marks limits forbidden ⌝ }
+{
+    ((marks % 256) | (marks >> 14)) | ((wide(limits) >> 4) | (wide(forbidden) >> 6))
+}
+
+// The eight bytes of a word, from index `at` on: its six causes, and two more, so that the compiler makes one store of them.
 fn put(causes: &mut [u8], at: usize, w: u64)
-    requires { ⌜ at + 6 ≤ length (now causes) ⌝ }
+    requires { ⌜ at + 8 ≤ length (now causes) ⌝ }
     ensures { λ _. ⌜ now (causes .exit) ≡ putAt (now (causes .entry)) at w ⌝ }
 {
     causes[at] = ((w >> 0) % 256) as u8;
@@ -45,9 +47,12 @@ fn put(causes: &mut [u8], at: usize, w: u64)
     causes[at + 3] = ((w >> 24) % 256) as u8;
     causes[at + 4] = ((w >> 32) % 256) as u8;
     causes[at + 5] = ((w >> 40) % 256) as u8;
+    causes[at + 6] = ((w >> 48) % 256) as u8;
+    causes[at + 7] = ((w >> 56) % 256) as u8;
 }
 
-// Puts the rights of `n` leaves at the start of `rights` and their causes at the start of `causes`. The answer is 0 exactly where no leaf is marked.
+// Puts the rights of `n` leaves at the start of `rights` and their causes at the start of `causes`, which has two bytes more. The answer is 0 exactly where no
+// leaf is marked.
 fn fill(
     s: Setup,
     base: &[u64; 64],
@@ -59,21 +64,26 @@ fn fill(
     rights: &mut [u8],
     causes: &mut [u8],
 ) -> u64
-    requires { ⌜ (n * 18 ≤ length (now leaves)) × (n ≤ length (now rights)) × (6 * n ≤ length (now causes)) × Tables s (now base) (now slots) (now stages) (now memory) ⌝ }
+    requires { ⌜ (n * 18 ≤ length (now leaves)) × (n ≤ length (now rights)) × (6 * n + 2 ≤ length (now causes)) × Tables s (now base) (now slots) (now stages) (now memory) ⌝ }
     ensures { λ r. ⌜ (eqb r 0 ≡ clear s (now (leaves .entry)) n) × Found s (now (leaves .entry)) n (now (rights .exit)) (now (causes .exit)) ⌝ }
 {
     let mut marks: u64 = 0;
+    let mut limits: u8 = 0;
+    let mut forbidden: u8 = 0;
     let mut i: usize = 0;
     while i < n {
+        let at = 6 * i;
         let l = leaf_of(leaves, i);
-        let w = leaf_word(base, slots, stages, s, l);
         let known = is_known(memory, l.stage1, l.stage2);
-        marks = marks | mark(w, known, l);
-        rights[i] = ((w >> 48) % 64) as u8;
-        put(causes, 6 * i, w);
+        let w = known_word(known, leaf_word(base, slots, stages, s, l));
+        marks = marks | marks_in(w);
+        limits = limits | l.limits;
+        forbidden = forbidden | l.forbidden;
+        rights[i] = ((w >> 48) % 256) as u8;
+        put(causes, at, w);
         i += 1;
     }
-    marks
+    sum_up(marks, limits, forbidden)
 }
 
 // The leaves of an accepted list, by way of two buffers that hold their rights and causes until it is known that no leaf is refused.
@@ -85,7 +95,7 @@ pub(crate) fn list_leaves(
     out: &mut [u8],
     causes: &mut [u8],
 ) -> Listed
-    requires { ⌜ (leafCount (now leaves) ≤ length (now rights)) × (6 * leafCount (now leaves) ≤ length (now found)) ⌝ }
+    requires { ⌜ (leafCount (now leaves) ≤ length (now rights)) × (6 * leafCount (now leaves) + 2 ≤ length (now found)) ⌝ }
     requires { ⌜ (leafCount (now leaves) ≤ length (now out)) × (6 * leafCount (now leaves) ≤ length (now causes)) ⌝ }
     requires { ⌜ (leafCount (now leaves) ≤ 2048) × (setupCheck (s .control) ≡ Passes) ⌝ }
     ensures { λ r. ⌜ r ≡ leavesOf s (now (leaves .entry)) (now (out .entry)) (now (causes .entry)) .answer ⌝ }

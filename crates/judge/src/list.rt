@@ -49,10 +49,10 @@ pub fn list_rights(setup: &[u8], leaves: &[u8], out: &mut [u8], causes: &mut [u8
     // short lists have short buffers, which are made at each call
     if leaves.len() <= 64 * 18 {
         let mut rights = [0u8; 64];
-        let mut found = [0u8; 384];
+        let mut found = [0u8; 386];
         return list_leaves(s, leaves, &mut rights, &mut found, out, causes);
     }
     let mut rights = [0u8; 2048];
-    let mut found = [0u8; 12288];
+    let mut found = [0u8; 12290];
     list_leaves(s, leaves, &mut rights, &mut found, out, causes)
 }

@@ -1,13 +1,13 @@
--- Numbers of bits: `bitAnd` and `bitOr` go by bits, a remainder by a power of two takes the lowest and a quotient drops them. Assumes nothing.
+-- Numbers of bits: `bitAnd`, `bitOr` and `bitXor` go by bits, a remainder by a power of two takes the lowest and a quotient drops them. Assumes nothing.
 use mathlib.Core.Path.{_≡_, refl, sym, _∙_}
-use mathlib.Core.Bool.{Bool, true, false, not, _&&_, _||_}
+use mathlib.Core.Bool.{Bool, true, false, cond, not, _&&_, _||_}
 use mathlib.Core.List.{List, [], _∷_}
 use Prim.Native.Nat.{ℕ, zero, suc, _+_, _*_, _/_, _%_, _^_, _<_, min, max}
 use native.Mathlib.Nat.{pow-suc, mul-comm, zero-mod, zero-div, div-div-eq-div-mul}
 use native.Mathlib.Omega.{arith}
 use lib.Arith.{digits-div, digits-mod, mod-mul}
 use lib.Pow.{pow-pos}
-use lib.Bits.{bitAnd, bitOr, and-step, or-step, or-zero-r, and-zero-r, or-add-and, and-le-r}
+use lib.Bits.{bitAnd, bitOr, bitXor, differ, and-step, or-step, xor-step, or-zero-r, and-zero-r, xor-zero-r, or-add-and, and-le-r}
 use lib.Dec.{eqb}
 use lib.ListN.{take, drop}
 use borrow.Author.Tests.{ne-eqb}
@@ -35,6 +35,15 @@ ors [] l = l
 ors (a ∷ k) [] = a ∷ k
 ors (a ∷ k) (b ∷ l) = (a || b) ∷ ors k l
 
+-- one of two and not the other
+abbrev pub other : Bool → Bool → Bool
+other a b = cond a (not b) b
+
+abbrev pub xors : List Bool → List Bool → List Bool
+xors [] l = l
+xors (a ∷ k) [] = a ∷ k
+xors (a ∷ k) (b ∷ l) = other a b ∷ xors k l
+
 and-digit : (a b : Bool) → min (digit a) (digit b) ≡ digit (a && b)
 and-digit true true = refl
 and-digit true false = refl
@@ -47,6 +56,12 @@ or-digit true false = refl
 or-digit false true = refl
 or-digit false false = refl
 
+xor-digit : (a b : Bool) → differ (digit a) (digit b) ≡ digit (other a b)
+xor-digit true true = refl
+xor-digit true false = refl
+xor-digit false true = refl
+xor-digit false false = refl
+
 pub and-bits : (k l : List Bool) → bitAnd (bits k) (bits l) ≡ bits (ands k l)
 and-bits [] l = refl
 and-bits (a ∷ k) [] = and-zero-r (bits (a ∷ k))
@@ -58,6 +73,12 @@ or-bits [] l = refl
 or-bits (a ∷ k) [] = or-zero-r (bits (a ∷ k))
 or-bits (a ∷ k) (b ∷ l) =
     or-step (bits (a ∷ k)) (bits (b ∷ l)) ∙ rw (half a k, half b l, lowest a k, lowest b l, or-bits k l, or-digit a b)
+
+pub xor-bits : (k l : List Bool) → bitXor (bits k) (bits l) ≡ bits (xors k l)
+xor-bits [] l = refl
+xor-bits (a ∷ k) [] = xor-zero-r (bits (a ∷ k))
+xor-bits (a ∷ k) (b ∷ l) =
+    xor-step (bits (a ∷ k)) (bits (b ∷ l)) ∙ rw (half a k, half b l, lowest a k, lowest b l, xor-bits k l, xor-digit a b)
 
 -- the bits of the low end, and those above
 pub low-bits : (n : ℕ) (l : List Bool) → bits l % 2 ^ n ≡ bits (take n l)

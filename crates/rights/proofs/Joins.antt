@@ -1,6 +1,6 @@
 -- A field's two words before a word are the word of the field before what follows it; and the words of a table. Assumes nothing.
 use mathlib.Core.Path.{_≡_, refl, ap, ap₂, _∙_}
-use mathlib.Core.Bool.{Bool, true, false, cond, or-false}
+use mathlib.Core.Bool.{Bool, true, false, cond, not, _&&_, _||_, or-false}
 use mathlib.Core.List.{List, [], _∷_, _++_}
 use Prim.Native.Nat.{ℕ, zero, suc, _+_, _*_, _<_}
 use native.Mathlib.Nat.{le-of-suc-le-suc, not-suc-le-zero, add-assoc}
@@ -9,12 +9,13 @@ use lib.Bits.{bitAnd, bitOr}
 use lib.ListN.{length, getD, List·getD-append}
 use lib.Seq.{getD-append-add}
 use Rattle.records.proofs.BitLaws.{ands, ors, and-bits, or-bits}
+use Rattle.records.proofs.Cases.{each}
 use Rattle.records.specs.Bits.{bit}
 use Rattle.records.specs.Access.{accesses}
 use Rattle.records.specs.Mirror.BitLists.{bits}
 use Rattle.records.specs.declared.access.Access.{Access}
 use Rattle.rights.specs.Mirror.Parts.{joinAt}
-use Rattle.rights.specs.Mirror.Words.{Word, Part, joined, over, sixBits, byte, alike, threeCodes, wordBits, keepBits, takeBits, numberOf, keepOf, takeOf, pairs}
+use Rattle.rights.specs.Mirror.Words.{Word, Part, joined, over, lanes, sixBits, byte, alike, opens, isGood, keepsGood, wordBits, keepBits, takeBits, numberOf, keepOf, takeOf, pairs}
 
 -- the byte of one access
 lane : (k : Bool) (n c : ℕ) (x m w : List Bool) → ors (byte (cond k 0 c) x) (ands (alike k m) (byte n w)) ≡ byte (cond k n c) (ors x (ands m w))
@@ -29,12 +30,41 @@ all-lanes (a ∷ l) k n c x m w =
     lane (k a) (n a) (c a) (over l (λ (b : Access). byte (cond (k b) 0 (c b))) x) (over l (λ (b : Access). alike (k b)) m) (over l (λ (b : Access). byte (n b)) w)
     ∙ ap (byte (cond (k a) (n a) (c a))) (all-lanes l k n c x m w)
 
+-- a bit for each access
+pub six-bits : (l : List Access) (f g : Access → Bool) (x : List Bool) → ((a : Access) → f a ≡ g a)
+    → over l (λ (a : Access) (t : List Bool). f a ∷ t) x ≡ over l (λ (a : Access) (t : List Bool). g a ∷ t) x
+six-bits [] f g x e = refl
+six-bits (a ∷ l) f g x e = ap₂ (λ (b : Bool) (t : List Bool). b ∷ t) (e a) (six-bits l f g x e)
+
+-- an access is open, and good, after a field before what follows
+lane-open : (m k r n : Bool) → (m || (k && (r || n))) ≡ ((k && r) || (m || (k && n)))
+lane-open m k r n =
+    each (m ∷ k ∷ r ∷ n ∷ []) (λ (v : List Bool). b v 0 || (b v 1 && (b v 2 || b v 3))) (λ (v : List Bool). (b v 1 && b v 2) || (b v 0 || (b v 1 && b v 3))) refl
+  where
+    b : List Bool → ℕ → Bool
+    b v j = getD v j false
+
+lane-good : (k m p r n q : Bool) → (((k && not m) && p) && ((r && not n) && q)) ≡ (((k && r) && not (m || (k && n))) && (p && q))
+lane-good k m p r n q =
+    each (k ∷ m ∷ p ∷ r ∷ n ∷ q ∷ []) (λ (v : List Bool). ((b v 0 && not (b v 1)) && b v 2) && ((b v 3 && not (b v 4)) && b v 5))
+    (λ (v : List Bool). ((b v 0 && b v 3) && not (b v 1 || (b v 0 && b v 4))) && (b v 2 && b v 5)) refl
+  where
+    b : List Bool → ℕ → Bool
+    b v j = getD v j false
+
+join-bits : (p : Part) (w : Word) → ors (takeBits p) (ands (keepBits p) (wordBits w)) ≡ wordBits (joined p w)
+join-bits p w =
+    let z = joined p w in
+    all-lanes accesses (p .keeps) (w .cause) (p .cause) (sixBits (p .meets) []) (sixBits (p .keeps) (p .codes 0 ∷ p .codes 1 ∷ sixBits (keepsGood p) (p .codes 2 ∷ [])))
+    (sixBits (opens w) (w .codes 0 ∷ w .codes 1 ∷ sixBits (isGood w) (w .codes 2 ∷ [])))
+    ∙ ap (lanes (λ (a : Access). byte (z .cause a)))
+    (six-bits accesses (λ (a : Access). p .meets a || (p .keeps a && opens w a)) (opens z) _ (λ a. lane-open (p .meets a) (p .keeps a) (w .right a) (w .meets a))
+    ∙ ap (λ (t : List Bool). sixBits (opens z) (z .codes 0 ∷ z .codes 1 ∷ t))
+    (six-bits accesses (λ (a : Access). keepsGood p a && isGood w a) (isGood z) (z .codes 2 ∷ []) (λ a. lane-good (p .keeps a) (p .meets a) (p .known) (w .right a) (w .meets a) (w .known))))
+
 pub join-law : (p : Part) (w : Word) → bitOr (takeOf p) (bitAnd (keepOf p) (numberOf w)) ≡ numberOf (joined p w)
 unfolding takeOf keepOf numberOf
-join-law p w =
-    ap (bitOr (takeOf p)) (and-bits (keepBits p) (wordBits w)) ∙ or-bits (takeBits p) (ands (keepBits p) (wordBits w))
-    ∙ ap bits (all-lanes accesses (p .keeps) (w .cause) (p .cause) (sixBits (λ (a : Access). false) (sixBits (p .meets) [])) (sixBits (p .keeps) (sixBits (p .keeps) (threeCodes (p .codes))))
-    (sixBits (w .right) (sixBits (w .meets) (threeCodes (w .codes)))))
+join-law p w = ap (bitOr (takeOf p)) (and-bits (keepBits p) (wordBits w)) ∙ or-bits (takeBits p) (ands (keepBits p) (wordBits w)) ∙ ap bits (join-bits p w)
 
 -- entry k of a table
 entry : (n : ℕ) (f : ℕ → Part) (k : ℕ) → k < n → (getD (pairs n f) (k * 2) 0 ≡ keepOf (f k)) × (getD (pairs n f) (k * 2 + 1) 0 ≡ takeOf (f k))

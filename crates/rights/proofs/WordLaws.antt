@@ -174,7 +174,7 @@ module _ (w p ap2 ap1 pxn uxn t1 t0 pt ut : Bool) where
     abbrev parts : Word
     parts =
         directWord w p (descriptorPart two ap1 ap2 pxn uxn) (limitsPart two t0 t1 pt ut)
-        (record { right = λ (a : Access). true; meets = λ (a : Access). false; cause = λ (a : Access). c; codes = λ (j : ℕ). true })
+        (record { right = λ (a : Access). true; meets = λ (a : Access). false; cause = λ (a : Access). c; codes = λ (j : ℕ). true; known = true })
 
     abbrev partsLeave : Bool × ℕ
     partsLeave = (parts .right (accessOf l x), parts .cause (accessOf l x))
@@ -484,3 +484,20 @@ word-law s d e t l x = go (s .control .stage1)
         (state-step 1 11 12 (d .valid) (d .af) (dirty (s .control) d) (follow (baseAnswer s d t (accessOf l x)) (stage2If s e (accessOf l x)))
         (refusesIn z (accessOf l x)) (z .right (accessOf l x)) (z .cause (accessOf l x))
         (base-agrees s d t l x (stage2If s e (accessOf l x)) second (stage2-agrees (s .control .stage2) e l x) (stage2-codes (s .control .stage2) e))))
+
+-- the memory of a leaf is known as far as this layer goes
+known-if : (b : Bool) (x y : Word) → x .known ≡ true → y .known ≡ true → cond b x y .known ≡ true
+known-if true x y e f = e
+known-if false x y e f = f
+
+pub stages-known : (s : Setup) (d : Stage1) (e : Stage2) (t : Limits) → stagesWord s d e t .known ≡ true
+stages-known s d e t = known-if (s .control .stage1) _ _ (known-if (s .control .indirect) _ _ (slots _ _) (slots true true)) second
+  where
+    w : Word
+    w = stage2Word (s .control .stage2) e
+
+    second : w .known ≡ true
+    second = known-if (s .control .stage2) _ _ refl refl
+
+    slots : (p u : Bool) → slotsWord s d p u w .known ≡ true
+    slots p u = known-if (s .control .overlay .privileged || s .control .overlay .unprivileged) _ _ second second

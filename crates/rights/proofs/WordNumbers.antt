@@ -24,8 +24,8 @@ use Rattle.records.specs.declared.setup.Control.{Control}
 use Rattle.records.specs.declared.setup.Setup.{Setup}
 use Rattle.rights.specs.Mirror.Parts.{statePart, stage2Part, limitsPart, lastPart, slotPart, stateAt, stage2At, lastAt, descriptorAt, limitsAt, codePartAt}
 use Rattle.rights.specs.Mirror.Parts.{stageWords, slotWords, baseWords, joinAt, wholeNumber, stage2Number, slotIf, slotsNumber, limitsIf, lastIndex, directNumber}
-use Rattle.rights.specs.Mirror.Parts.{codeIf, indirectNumber, stage1Number, offNumber, oneNumber, levelsNumber, leafNumber}
-use Rattle.rights.specs.Mirror.Parts.{stage2Word, slotsWord, directWord, descriptorOf, limitsPartOf, indirectWord, baseWord, offPart, onePart, stagesWord, leafWord}
+use Rattle.rights.specs.Mirror.Parts.{codeIf, indirectNumber, stage1Number, offNumber, oneNumber, levelsNumber, unknownNumber, knownNumber, leafNumber}
+use Rattle.rights.specs.Mirror.Parts.{stage2Word, slotsWord, directWord, descriptorOf, limitsPartOf, indirectWord, baseWord, offPart, onePart, knownPart, stagesWord, leafWord}
 use Rattle.rights.specs.Mirror.Words.{Word, Part, whole, joined, keepBits, numberOf, keepOf, takeOf, pairs}
 use Rattle.rights.specs.Stage1.{dirty}
 use Rattle.rights.proofs.Joins.{join-law, keep-at, join-at}
@@ -243,7 +243,7 @@ module _ (s : Setup) (f : Leaf) (w : Word) where
           ∙ at-state1 51 d _
 
 -- stage 1 off, and one level
-off-keeps : 0x0FFFFFFFFFFFFFFF ≡ keepOf offPart
+off-keeps : 0x3F3FFFFFFFFFFFFF ≡ keepOf offPart
 unfolding keepOf
 off-keeps = refl
 
@@ -251,7 +251,7 @@ off-takes : takeOf offPart ≡ 0
 unfolding takeOf
 off-takes = refl
 
-one-keeps : 0x71C7000000FFFFFF ≡ keepOf onePart
+one-keeps : 0x47C7000000FFFFFF ≡ keepOf onePart
 unfolding keepOf
 one-keeps = refl
 
@@ -269,6 +269,19 @@ off-number w = ap (λ (n : ℕ). bitAnd n (numberOf w)) off-keeps ∙ mask-law o
 one-number : (w : Word) → oneNumber (numberOf w) ≡ numberOf (joined onePart w)
 unfolding oneNumber
 one-number w = ap (λ (n : ℕ). bitAnd n (numberOf w)) one-keeps ∙ mask-law onePart w one-takes
+
+unknown-keeps : 0x40FFFFFFFFFFFFFF ≡ keepOf (knownPart false)
+unfolding keepOf
+unknown-keeps = refl
+
+unknown-takes : takeOf (knownPart false) ≡ 0
+unfolding takeOf
+unknown-takes = refl
+
+pub known-number : (k : Bool) (w : Word) → knownNumber k (numberOf w) ≡ numberOf (joined (knownPart k) w)
+unfolding unknownNumber numberOf
+known-number true w = refl
+known-number false w = ap (λ (n : ℕ). bitAnd n (numberOf w)) unknown-keeps ∙ mask-law (knownPart false) w unknown-takes
 
 -- THE NUMBER OF A LEAF
 pub number-law : (s : Setup) (f : Leaf) → leafNumber (baseWords (s .control .indirect) (s .control .two)) slotWords stageWords s f ≡ numberOf (leafWord s f)

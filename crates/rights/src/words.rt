@@ -1,10 +1,11 @@
 // All accesses of a leaf at once, rights and causes, by words (words/tables.rt). Each field of a leaf keeps some accesses of those that the fields after it
-// leave, in the order of the causes, last first: one word comes out that has in byte a the cause of access a, in bits 48 to 53 the rights, in bits 54 to 59
-// the accesses that meet a refusal, and in bits 60 to 62 what refuses a pair of base codes. No public function has a `requires`.
+// leave, in the order of the causes, last first: one word comes out that has in byte a the cause of access a, in bits 48 to 53 the accesses that are open, in
+// bits 56 to 61 the accesses that are good, and in bits 54, 55 and 62 what refuses a pair of base codes. An access is refused where it is open and not good. No
+// public function has a `requires`.
 ghost use mathlib.Core.Path.{_≡_};
 ghost use Prim.Native.Nat.{_<_};
 ghost use Rattle.records.specs.Access.{digit};
-ghost use Rattle.rights.specs.Mirror.Parts.{joinAt, slotIf, limitsIf, lastIndex, codeIf, stage2Number, overlaidNumber, slotsNumber, directNumber, indirectNumber, stage1Number, offNumber, oneNumber, levelsNumber, leafNumber};
+ghost use Rattle.rights.specs.Mirror.Parts.{joinAt, slotIf, limitsIf, lastIndex, codeIf, stage2Number, overlaidNumber, slotsNumber, directNumber, indirectNumber, stage1Number, offNumber, oneNumber, levelsNumber, unknownNumber, knownNumber, leafNumber};
 
 pub mod tables;
 
@@ -18,7 +19,7 @@ use records::setup::Control;
 use records::setup::Setup;
 
 // No access is taken away.
-const WHOLE: u64 = 0x703F_0000_0000_0000;
+const WHOLE: u64 = 0x7FFF_0000_0000_0000;
 
 // The two words of a field at index `i`, before the word of what follows.
 fn join(t: &[u64; 64], i: usize, w: u64) -> u64
@@ -164,14 +165,14 @@ fn stage1_word(base: &[u64; 64], slots: &[u64; 64], t: &[u64; 96], s: Setup, f: 
 fn off_word(w: u64) -> u64
     ensures { λ r. ⌜ r ≡ offNumber w ⌝ }
 {
-    0x0FFF_FFFF_FFFF_FFFF & w
+    0x3F3F_FFFF_FFFF_FFFF & w
 }
 
 // One level: the unprivileged accesses are not judged.
 fn one_word(w: u64) -> u64
     ensures { λ r. ⌜ r ≡ oneNumber w ⌝ }
 {
-    0x71C7_0000_00FF_FFFF & w
+    0x47C7_0000_00FF_FFFF & w
 }
 
 fn levels_word(two: bool, w: u64) -> u64
@@ -192,4 +193,21 @@ pub fn leaf_word(base: &[u64; 64], slots: &[u64; 64], t: &[u64; 96], s: Setup, f
         return levels_word(s.control.two, stage1_word(base, slots, t, s, f, w));
     }
     levels_word(s.control.two, off_word(w))
+}
+
+// Memory that is not known: no access is good.
+fn unknown_word(w: u64) -> u64
+    ensures { λ r. ⌜ r ≡ unknownNumber w ⌝ }
+{
+    0x40FF_FFFF_FFFF_FFFF & w
+}
+
+// The word of a leaf whose memory is known or not.
+pub fn known_word(known: bool, w: u64) -> u64
+    ensures { λ r. ⌜ r ≡ knownNumber known w ⌝ }
+{
+    if known {
+        return w;
+    }
+    unknown_word(w)
 }

@@ -2,42 +2,53 @@
 -- `leafRights` and `causeAt`. Assumes nothing.
 use Prim.Native.Nat.{ℕ, zero, suc, _+_, _*_, _/_, _%_, _^_, _<_}
 use mathlib.Core.Path.{_≡_}
-use mathlib.Core.Bool.{Bool, true, cond, _&&_}
+use mathlib.Core.Bool.{Bool, true, _&&_}
 use mathlib.Core.List.{List}
-use lib.Bits.{bitOr}
+use lib.Bits.{bitOr, bitXor}
 use lib.Dec.{eqb}
 use lib.ListN.{getD, set}
 use Rattle.records.specs.Descriptor.{stage1Of, stage2Of}
 use Rattle.records.specs.Leaf.{leafAt}
 use Rattle.records.specs.declared.leaf.Leaf.{Leaf}
 use Rattle.records.specs.declared.setup.Setup.{Setup}
-use Rattle.rights.specs.Mirror.Parts.{baseWords, slotWords, stageWords, leafWord}
-use Rattle.rights.specs.Mirror.Words.{numberOf}
+use Rattle.rights.specs.Mirror.Parts.{baseWords, slotWords, stageWords, knownPart, leafWord}
+use Rattle.rights.specs.Mirror.Words.{Word, joined, numberOf}
 use Rattle.attributes.specs.Mirror.Known.{MemoryTable, passes}
 use Rattle.attributes.specs.Order.{checkOf}
 
--- not 0 exactly where a leaf is refused whose word has number w: limits or forbidden bits are too high, an access meets a refusal, base codes are refused, or an
--- access has a right to memory that is not known
-abbrev pub markOf : ℕ → Bool → Leaf → ℕ
-markOf w known f = bitOr (cond known (w / 2 ^ 54) (w / 2 ^ 48)) (bitOr (f .limits / 2 ^ 4) (f .forbidden / 2 ^ 6))
+-- the marks of a word's number: not 0 in bits 0 to 7 or from 14 on exactly where an access is open and not good, or base codes are refused
+unfoldable pub marksIn : ℕ → ℕ
+marksIn w = bitXor (w / 2 ^ 48) (w / 2 ^ 56)
+
+-- not 0 exactly where marks m are, limits l or forbidden bits f are too high
+abbrev pub total : ℕ → ℕ → ℕ → ℕ
+total m l f = bitOr (bitOr (m % 2 ^ 8) (m / 2 ^ 14)) (bitOr (l / 2 ^ 4) (f / 2 ^ 6))
+
+-- the mark of a leaf whose word has number w: not 0 exactly where it is refused
+abbrev pub markOf : ℕ → Leaf → ℕ
+markOf w f = total (marksIn w) (f .limits) (f .forbidden)
 
 -- the attribute steps refuse no access of a leaf
 abbrev pub knownOf : Setup → Leaf → Bool
 knownOf s f = passes (checkOf s (stage1Of (f .stage1)) (stage2Of (f .stage2)))
 
--- the rights in a word's number, and the cause of access a
+-- the word of a leaf, with what is known of its memory
+abbrev pub wordOf : Setup → Leaf → Word
+wordOf s f = joined (knownPart (knownOf s f)) (leafWord s f)
+
+-- the rights in the number of a word that has no mark, and the cause of access a
 abbrev pub rightsIn : ℕ → ℕ
-rightsIn w = w / 2 ^ 48 % 64
+rightsIn w = w / 2 ^ 48 % 2 ^ 8
 
 abbrev pub causeIn : ℕ → ℕ → ℕ
 causeIn w a = w / 2 ^ (8 * a) % 256
 
 -- of leaf i: the number of its word, and its mark
 unfoldable pub wordAt : Setup → List ℕ → ℕ → ℕ
-wordAt s ls i = numberOf (leafWord s (leafAt ls i))
+wordAt s ls i = numberOf (wordOf s (leafAt ls i))
 
 unfoldable pub markAt : Setup → List ℕ → ℕ → ℕ
-markAt s ls i = markOf (wordAt s ls i) (knownOf s (leafAt ls i)) (leafAt ls i)
+markAt s ls i = markOf (wordAt s ls i) (leafAt ls i)
 
 -- no leaf before leaf n is marked
 abbrev pub clear : Setup → List ℕ → ℕ → Bool
@@ -49,10 +60,11 @@ abbrev pub Found : Setup → List ℕ → ℕ → List ℕ → List ℕ → Type
 Found s ls n rights causes =
     ((i : ℕ) → i < n → getD rights i 0 ≡ rightsIn (wordAt s ls i)) × ((k : ℕ) → k < 6 * n → getD causes k 0 ≡ causeIn (wordAt s ls (k / 6)) (k % 6))
 
--- the six causes of a word's number, put into a buffer from index k on
+-- the eight bytes of a word's number put into a buffer from index k on: its six causes, and two bytes that the next leaf writes over
 unfoldable pub putAt : List ℕ → ℕ → ℕ → List ℕ
 putAt v k w =
-    set (set (set (set (set (set v k (causeIn w 0)) (k + 1) (causeIn w 1)) (k + 2) (causeIn w 2)) (k + 3) (causeIn w 3)) (k + 4) (causeIn w 4)) (k + 5) (causeIn w 5)
+    set (set (set (set (set (set (set (set v k (causeIn w 0)) (k + 1) (causeIn w 1)) (k + 2) (causeIn w 2)) (k + 3) (causeIn w 3)) (k + 4) (causeIn w 4)) (k + 5) (causeIn w 5)) (k + 6) (causeIn w 6))
+    (k + 7) (causeIn w 7)
 
 -- the tables of a setup: words of base rights, slots and stages, and known memory
 abbrev pub Tables : Setup → List ℕ → List ℕ → List ℕ → List ℕ → Type 0

@@ -49,11 +49,12 @@ statePart t f kept v a d = record {
   meets = λ (x : Access). (v && a) && d;
   cause = λ (x : Access). cond v f t;
   codes = λ (j : ℕ). kept || (v && a);
+  known = true;
 }
 
 -- rights that a field keeps, with the causes of what it takes away
 abbrev pub rightsPart : Rights → (Access → ℕ) → Bool → Part
-rightsPart r cause codes = record { keeps = λ (x : Access). has r x; meets = λ (x : Access). false; cause = cause; codes = λ (j : ℕ). codes }
+rightsPart r cause codes = record { keeps = λ (x : Access). has r x; meets = λ (x : Access). false; cause = cause; codes = λ (j : ℕ). codes; known = true }
 
 -- one cause for execution, another for reads and writes
 abbrev pub byRight : ℕ → ℕ → Access → ℕ
@@ -84,6 +85,7 @@ lastPart pw w ur p = record {
   meets = λ (x : Access). false;
   cause = λ (x : Access). cond (executes (x .right)) (cond (sameLevel Privileged (x .level) && (pw && ur)) 5 6) 7;
   codes = λ (j : ℕ). true;
+  known = true;
 }
 
 -- a base code at a level, cause 1
@@ -98,6 +100,7 @@ codePart l c = record {
   meets = λ (x : Access). false;
   cause = λ (x : Access). 1;
   codes = λ (j : ℕ). getD (cond (sameLevel l Privileged) ((c .reserved || c .unjudged) ∷ true ∷ c .execute ∷ []) (true ∷ (c .reserved || c .unjudged) ∷ c .write ∷ [])) j false;
+  known = true;
 }
 
 -- an overlay slot at a level, cause 8; from 8 on it is reserved
@@ -107,6 +110,7 @@ slotPart l v = record {
   meets = λ (x : Access). sameLevel l (x .level) && leb 8 v;
   cause = λ (x : Access). 8;
   codes = λ (j : ℕ). true;
+  known = true;
 }
 
 -- the tables: entry k is the part of field k
@@ -146,7 +150,7 @@ unfoldable pub joinAt : List ℕ → ℕ → ℕ → ℕ
 joinAt t i w = bitOr (getD t (i + 1) 0) (bitAnd (getD t i 0) w)
 
 abbrev pub wholeNumber : ℕ
-wholeNumber = 0x703F000000000000
+wholeNumber = 0x7FFF000000000000
 
 abbrev pub stage2Number : List ℕ → Bool → ℕ → ℕ
 stage2Number t on e = cond on (joinAt t (16 + stateOf 51 e * 2) (joinAt t (32 + permissionsOf e * 2) wholeNumber)) wholeNumber
@@ -195,14 +199,21 @@ stage1Number b o t s f w =
 
 -- stage 1 off: no base code is read
 unfoldable pub offNumber : ℕ → ℕ
-offNumber w = bitAnd 0x0FFFFFFFFFFFFFFF w
+offNumber w = bitAnd 0x3F3FFFFFFFFFFFFF w
 
 -- one level: the unprivileged accesses are not judged
 unfoldable pub oneNumber : ℕ → ℕ
-oneNumber w = bitAnd 0x71C7000000FFFFFF w
+oneNumber w = bitAnd 0x47C7000000FFFFFF w
 
 abbrev pub levelsNumber : Bool → ℕ → ℕ
 levelsNumber two w = cond two w (oneNumber w)
+
+-- memory that is not known: no access is good
+unfoldable pub unknownNumber : ℕ → ℕ
+unknownNumber w = bitAnd 0x40FFFFFFFFFFFFFF w
+
+abbrev pub knownNumber : Bool → ℕ → ℕ
+knownNumber known w = cond known w (unknownNumber w)
 
 unfoldable pub leafNumber : List ℕ → List ℕ → List ℕ → Setup → Leaf → ℕ
 leafNumber b o t s f =
@@ -245,10 +256,14 @@ baseWord s d t w =
 
 -- stage 1 off; and one level
 abbrev pub offPart : Part
-offPart = record { keeps = λ (x : Access). true; meets = λ (x : Access). false; cause = λ (x : Access). 0; codes = λ (j : ℕ). false }
+offPart = record { keeps = λ (x : Access). true; meets = λ (x : Access). false; cause = λ (x : Access). 0; codes = λ (j : ℕ). false; known = true }
 
 abbrev pub onePart : Part
-onePart = record { keeps = λ (x : Access). sameLevel Privileged (x .level); meets = λ (x : Access). false; cause = λ (x : Access). 0; codes = λ (j : ℕ). true }
+onePart = record { keeps = λ (x : Access). sameLevel Privileged (x .level); meets = λ (x : Access). false; cause = λ (x : Access). 0; codes = λ (j : ℕ). true; known = true }
+
+-- memory that is known, or not
+abbrev pub knownPart : Bool → Part
+knownPart k = record { keeps = λ (x : Access). true; meets = λ (x : Access). false; cause = λ (x : Access). 0; codes = λ (j : ℕ). true; known = k }
 
 abbrev pub stagesWord : Setup → Stage1 → Stage2 → Limits → Word
 stagesWord s d e t =

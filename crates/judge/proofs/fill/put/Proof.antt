@@ -58,8 +58,26 @@ add-causes-5 c = search needs
 slice-write-causes-6 : tie.Need-slice-write-causes-6
 slice-write-causes-6 c = simp length-set (omega arith)
 
+cast-causes-7 : tie.Need-cast-causes-7
+cast-causes-7 c = search needs
+
+add-causes-6 : tie.Need-add-causes-6
+add-causes-6 c = search needs
+
+slice-write-causes-7 : tie.Need-slice-write-causes-7
+slice-write-causes-7 c = simp length-set (omega arith)
+
+cast-causes-8 : tie.Need-cast-causes-8
+cast-causes-8 c = search needs
+
+add-causes-7 : tie.Need-add-causes-7
+add-causes-7 c = search needs
+
+slice-write-causes-8 : tie.Need-slice-write-causes-8
+slice-write-causes-8 c = simp length-set (omega arith)
+
 same-length : tie.Need-same-length
-same-length c = search needs
+same-length c = simp length-set
 
 returns : tie.Need-returns
 unfolding putAt
@@ -86,5 +104,11 @@ put-spec =
     cast-causes-6
     add-causes-5
     slice-write-causes-6
+    cast-causes-7
+    add-causes-6
+    slice-write-causes-7
+    cast-causes-8
+    add-causes-7
+    slice-write-causes-8
     same-length
     returns)

@@ -107,7 +107,7 @@ slice-aggregate-list-leaves-2 : tie.Need-slice-aggregate-list-leaves-2
 slice-aggregate-list-leaves-2 c = search needs
 
 list-leaves-requires : tie.Need-list-leaves-requires
-list-leaves-requires c κs = let h = fits (c .before .before .before .before .before) in let s = c .before .before .before .before .if1 .taken in ((omega (arith, length-replicate {A = ℕ} 64 0), omega (arith, length-replicate {A = ℕ} 384 0)), ((h .roomy, h .caused), (h .few, h .accepted)))
+list-leaves-requires c κs = let h = fits (c .before .before .before .before .before) in let s = c .before .before .before .before .if1 .taken in ((omega (arith, length-replicate {A = ℕ} 64 0), omega (arith, length-replicate {A = ℕ} 386 0)), ((h .roomy, h .caused), (h .few, h .accepted)))
 
 same-length : tie.Need-same-length
 same-length c = search needs
@@ -125,7 +125,7 @@ slice-aggregate-list-leaves-4 : tie.Need-slice-aggregate-list-leaves-4
 slice-aggregate-list-leaves-4 c = search needs
 
 list-leaves-requires-2 : tie.Need-list-leaves-requires-2
-list-leaves-requires-2 c κs = let h = fits (c .before .before .before .before .before) in let f = h .few in ((omega (arith, length-replicate {A = ℕ} 2048 0), omega (arith, length-replicate {A = ℕ} 12288 0)), ((h .roomy, h .caused), (h .few, h .accepted)))
+list-leaves-requires-2 c κs = let h = fits (c .before .before .before .before .before) in let f = h .few in ((omega (arith, length-replicate {A = ℕ} 2048 0), omega (arith, length-replicate {A = ℕ} 12290 0)), ((h .roomy, h .caused), (h .few, h .accepted)))
 
 same-length-3 : tie.Need-same-length-3
 same-length-3 c = search needs
