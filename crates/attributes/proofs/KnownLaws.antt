@@ -53,3 +53,13 @@ module _ (s : Setup) (d e : ℕ) (t : List ℕ) (h : MemoryTable (s .control) (s
   pub known-law : knownWith t d e ≡ passes (checkOf s (stage1Of d) (stage2Of e))
   unfolding knownWith checkOf reservedSH stage1Of stage2Of
   known-law = rw (byte-entry, code-entry, sh-entry 0 (sh d) (s .control .stage1) refl (omega arith), sh-entry 4 (sh e) (s .control .stage2) refl (omega arith), all-pass)
+
+  -- where stage 2 is off it refuses no memory
+  pub second-off : s .control .stage2 ≡ false → (eqb (getD t (memAttr e + 16) 0) 0 ≡ true) × (eqb (getD t (sh e + 36) 0) 0 ≡ true)
+  unfolding reservedMemAttr
+  second-off off = (rw (code-entry, off), rw (sh-entry 4 (sh e) (s .control .stage2) refl (omega arith), off))
+
+  -- and so stage 1
+  pub first-off : s .control .stage1 ≡ false → (eqb (getD t (attrIndxOf d) 0) 0 ≡ true) × (eqb (getD t (sh d + 32) 0) 0 ≡ true)
+  unfolding reservedByte
+  first-off off = (rw (byte-entry, off), rw (sh-entry 0 (sh d) (s .control .stage1) refl (omega arith), off))

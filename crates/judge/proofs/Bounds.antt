@@ -1,5 +1,5 @@
 -- How large a list's answer can be, by its demands: at most 2,048 leaves, and a refusal names one of them. Assumes nothing.
-use mathlib.Core.Path.{_≡_, refl}
+use mathlib.Core.Path.{refl}
 use mathlib.Core.List.{List}
 use Prim.Native.Nat.{ℕ, _≤_, _<_}
 use native.Mathlib.Omega.{arith}

@@ -1,16 +1,16 @@
 -- The buffers of a list, a leaf at a time: its rights, its six causes, and whether a leaf is marked. Assumes nothing.
 use mathlib.Core.Path.{_≡_, refl, sym, ap, ap₂, _∙_}
-use mathlib.Core.Bool.{Bool, false, _&&_}
+use mathlib.Core.Bool.{Bool, _&&_}
 use mathlib.Core.List.{List, [], _∷_}
 use Prim.Native.Nat.{ℕ, _+_, _*_, _/_, _%_, _^_, _≤_, _<_}
 use native.Mathlib.Numerals.{add-one}
 use native.Mathlib.Omega.{arith}
 use lib.Bits.{bitOr, or-mod, or-shr}
 use lib.Dec.{eqb}
-use lib.ListN.{length, getD, set, length-set}
+use lib.ListN.{length, set, length-set}
 use lib.Seq.{getD-set-other}
 use Rattle.records.proofs.BitLaws.{or-none}
-use Rattle.records.proofs.Cases.{each}
+use Rattle.records.proofs.Cases.{each, nth}
 use Rattle.records.proofs.Halves.{Entries, one-entry}
 use Rattle.records.specs.Leaf.{leafAt}
 use Rattle.records.specs.declared.leaf.Leaf.{Leaf}
@@ -70,10 +70,10 @@ module _ (s : Setup) (ls : List ℕ) where
       ap₂ knownNumber (rw e at f ∙ known-law s (h .stage1) (h .stage2) m (tables .3)) (g ∙ rw (e, tables .0, tables .1, tables .2) (number-law s h)) ∙ known-number (knownOf s h) (leafWord s h)
 
   -- marks are gathered
-  pub marks-are : (i m l f w : ℕ) (g : Leaf) → g ≡ leafAt ls i → w ≡ wordAt s ls i → eqb (total m l f) 0 ≡ clear s ls i
-      → eqb (total (bitOr m (marksIn w)) (bitOr l (g .limits)) (bitOr f (g .forbidden))) 0 ≡ clear s ls (i + 1)
+  pub marks-are : (i m l f w x y : ℕ) → x ≡ leafAt ls i .limits → y ≡ leafAt ls i .forbidden → w ≡ wordAt s ls i → eqb (total m l f) 0 ≡ clear s ls i
+      → eqb (total (bitOr m (marksIn w)) (bitOr l x) (bitOr f y)) 0 ≡ clear s ls (i + 1)
   unfolding markAt
-  marks-are i m l f w g e h c = totals m (marksIn w) l (g .limits) f (g .forbidden) ∙ rw (add-one i, c, h, e)
+  marks-are i m l f w x y e g h c = totals m (marksIn w) l x f y ∙ rw (add-one i, c, h, e, g)
     where
       parts : (a b x y : ℕ) → eqb (bitOr (bitOr a b) (bitOr x y)) 0 ≡ ((eqb a 0 && eqb b 0) && (eqb x 0 && eqb y 0))
       parts a b x y = or-none (bitOr a b) (bitOr x y) ∙ ap₂ _&&_ (or-none a b) (or-none x y)
@@ -89,8 +89,5 @@ module _ (s : Setup) (ls : List ℕ) where
         where
           sort : (p q r s t u v w : Bool) → (((p && q) && (r && s)) && ((t && u) && (v && w))) ≡ (((p && r) && (t && v)) && ((q && s) && (u && w)))
           sort p q r s t u v w =
-              each (p ∷ q ∷ r ∷ s ∷ t ∷ u ∷ v ∷ w ∷ []) (λ (x : List Bool). ((at x 0 && at x 1) && (at x 2 && at x 3)) && ((at x 4 && at x 5) && (at x 6 && at x 7)))
-              (λ (x : List Bool). ((at x 0 && at x 2) && (at x 4 && at x 6)) && ((at x 1 && at x 3) && (at x 5 && at x 7))) refl
-            where
-              at : List Bool → ℕ → Bool
-              at x j = getD x j false
+              each (p ∷ q ∷ r ∷ s ∷ t ∷ u ∷ v ∷ w ∷ []) (λ (x : List Bool). ((nth x 0 && nth x 1) && (nth x 2 && nth x 3)) && ((nth x 4 && nth x 5) && (nth x 6 && nth x 7)))
+              (λ (x : List Bool). ((nth x 0 && nth x 2) && (nth x 4 && nth x 6)) && ((nth x 1 && nth x 3) && (nth x 5 && nth x 7))) refl

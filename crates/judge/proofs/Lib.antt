@@ -8,6 +8,7 @@ pub mod ListDemands
 pub mod ListMet
 pub mod LeafWords
 pub mod Filled
+pub mod GroupWords
 pub mod Refusals
 pub mod ListLaws
 pub mod Bounds

@@ -1,43 +1,32 @@
-// The rights and causes of a list of leaves, from one pass by words, into buffers of its own. A leaf that is refused is marked, and the list that has one is
-// walked again by the judge's own function.
+// The rights and causes of a list of leaves, from one pass by the words of single fields. A leaf that is refused is marked.
 ghost use mathlib.Core.Path.{_≡_};
 ghost use Prim.Native.Nat.{_+_, _*_, _≤_};
 ghost use lib.Dec.{eqb};
 ghost use lib.ListN.{length};
-ghost use Rattle.records.specs.Leaf.{leafCount};
-ghost use Rattle.records.specs.declared.check.Check.the-variants.{Passes};
-ghost use Rattle.rights.specs.Checks.{setupCheck};
-ghost use Rattle.judge.specs.List.{leavesOf};
 ghost use Rattle.judge.specs.Mirror.Words.{marksIn, total, putAt, Tables, clear, Found};
-use crate::answers::Listed;
-use crate::walk::first_refusal;
 use crate::walk::leaf_of;
 use attributes::known::is_known;
-use attributes::known::memory_table;
 use records::number::wide;
 use records::setup::Setup;
 use rights::words::known_word;
 use rights::words::leaf_word;
-use rights::words::tables::base_words;
-use rights::words::tables::slot_words;
-use rights::words::tables::stage_words;
 
 // The marks of a word: bits 0 to 7 and 14 are 0 exactly where no access is open and not good and no base codes are refused.
-fn marks_in(w: u64) -> u64
+pub(crate) fn marks_in(w: u64) -> u64
     ensures { λ r. ⌜ r ≡ marksIn w ⌝ }
 {
     (w >> 48) ^ (w >> 56)
 }
 
 // Not 0 exactly where `marks` has a mark, or limits or forbidden bits are too high.
-fn sum_up(marks: u64, limits: u8, forbidden: u8) -> u64
+pub(crate) fn sum_up(marks: u64, limits: u8, forbidden: u8) -> u64
     ensures { λ r. ⌜ r ≡ total marks limits forbidden ⌝ }
 {
     ((marks % 256) | (marks >> 14)) | ((wide(limits) >> 4) | (wide(forbidden) >> 6))
 }
 
 // The eight bytes of a word, from index `at` on: its six causes, and two more, so that the compiler makes one store of them.
-fn put(causes: &mut [u8], at: usize, w: u64)
+pub(crate) fn put(causes: &mut [u8], at: usize, w: u64)
     requires { ⌜ at + 8 ≤ length (now causes) ⌝ }
     ensures { λ _. ⌜ now (causes .exit) ≡ putAt (now (causes .entry)) at w ⌝ }
 {
@@ -53,7 +42,7 @@ fn put(causes: &mut [u8], at: usize, w: u64)
 
 // Puts the rights of `n` leaves at the start of `rights` and their causes at the start of `causes`, which has two bytes more. The answer is 0 exactly where no
 // leaf is marked.
-fn fill(
+pub(crate) fn fill(
     s: Setup,
     base: &[u64; 64],
     slots: &[u64; 64],
@@ -84,34 +73,4 @@ fn fill(
         i += 1;
     }
     sum_up(marks, limits, forbidden)
-}
-
-// The leaves of an accepted list, by way of two buffers that hold their rights and causes until it is known that no leaf is refused.
-pub(crate) fn list_leaves(
-    s: Setup,
-    leaves: &[u8],
-    rights: &mut [u8],
-    found: &mut [u8],
-    out: &mut [u8],
-    causes: &mut [u8],
-) -> Listed
-    requires { ⌜ (leafCount (now leaves) ≤ length (now rights)) × (6 * leafCount (now leaves) + 2 ≤ length (now found)) ⌝ }
-    requires { ⌜ (leafCount (now leaves) ≤ length (now out)) × (6 * leafCount (now leaves) ≤ length (now causes)) ⌝ }
-    requires { ⌜ (leafCount (now leaves) ≤ 2048) × (setupCheck (s .control) ≡ Passes) ⌝ }
-    ensures { λ r. ⌜ r ≡ leavesOf s (now (leaves .entry)) (now (out .entry)) (now (causes .entry)) .answer ⌝ }
-    ensures { λ r. ⌜ now (out .exit) ≡ leavesOf s (now (leaves .entry)) (now (out .entry)) (now (causes .entry)) .out ⌝ }
-    ensures { λ r. ⌜ now (causes .exit) ≡ leavesOf s (now (leaves .entry)) (now (out .entry)) (now (causes .entry)) .causes ⌝ }
-{
-    let n = leaves.len() / 18;
-    let base = base_words(s.control.indirect, s.control.two);
-    let slots = slot_words();
-    let stages = stage_words();
-    let memory = memory_table(s.control, s.mair, s.mair2);
-    let marks = fill(s, &base, &slots, &stages, &memory, leaves, n, rights, found);
-    if marks != 0 {
-        return first_refusal(s, leaves, n);
-    }
-    bytes::copy(&rights[..n], out);
-    bytes::copy(&found[..6 * n], causes);
-    Listed::Done(n)
 }

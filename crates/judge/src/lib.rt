@@ -4,5 +4,7 @@
 pub mod access;
 pub mod answers;
 mod fill;
+mod groups;
+mod leaves;
 pub mod list;
 mod walk;

@@ -3,7 +3,8 @@ ghost use mathlib.Core.Path.{_≡_};
 ghost use Rattle.judge.specs.Demands.{ListDemands};
 ghost use Rattle.judge.specs.List.{listCheck, listOf};
 use crate::answers::Listed;
-use crate::fill::list_leaves;
+use crate::leaves::SHORT;
+use crate::leaves::list_leaves;
 use records::check::Check;
 use records::check::check_if;
 use records::check::number_of;
@@ -46,8 +47,8 @@ pub fn list_rights(setup: &[u8], leaves: &[u8], out: &mut [u8], causes: &mut [u8
             leaf: 0,
         };
     };
-    // short lists have short buffers, which are made at each call
-    if leaves.len() <= 64 * 18 {
+    // short lists have short buffers, since buffers are cleared at each call; that of the causes has two bytes more, since `put` stores eight
+    if leaves.len() <= SHORT * 18 {
         let mut rights = [0u8; 64];
         let mut found = [0u8; 386];
         return list_leaves(s, leaves, &mut rights, &mut found, out, causes);

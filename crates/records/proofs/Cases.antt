@@ -7,7 +7,7 @@ use mathlib.Core.List.{List, [], _∷_}
 use Prim.Native.Nat.{ℕ, zero, suc, _%_, _<_}
 use native.Mathlib.Omega.{arith}
 use native.Mathlib.Nat.{le-of-suc-le-suc, not-suc-le-zero, mod-lt, zero-lt-suc}
-use lib.ListN.{length}
+use lib.ListN.{length, getD}
 
 -- where an equation has different constructors on its sides, `clash (cc)` proves anything
 pub clash : {A : Type 0} → _≡_ {A = ℕ} 0 1 → A
@@ -68,6 +68,10 @@ pub each : {A : Type 0} (l : List Bool) (f g : List Bool → A) → tree (length
 each [] f g e = same-value e
 each (true ∷ l) f g e = each l (λ (m : List Bool). f (true ∷ m)) (λ (m : List Bool). g (true ∷ m)) (same-left e)
 each (false ∷ l) f g e = each l (λ (m : List Bool). f (false ∷ m)) (λ (m : List Bool). g (false ∷ m)) (same-right e)
+
+-- entry j of a list of truth values
+abbrev pub nth : List Bool → ℕ → Bool
+nth v j = getD v j false
 
 -- binary digits of numbers, one for each
 abbrev pub digits : List ℕ → List ℕ

@@ -2,3 +2,4 @@
 pub mod LeafFields
 pub mod Fields
 pub mod BitLists
+pub mod Places

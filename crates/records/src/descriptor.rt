@@ -1,10 +1,11 @@
 // The fields of a descriptor and of a limits byte, and the two indices that a stage 1 descriptor holds (document 01, 'Setup and leaf records').
-// Part of the record layer. It reads numbers, never bytes, and judges nothing. No public function has a `requires`.
+// Part of the record layer. It reads numbers, and bytes only in `places`, and judges nothing. No public function but `places::leaf_places` has a `requires`.
 ghost use mathlib.Core.Path.{_≡_};
 ghost use Rattle.records.specs.Descriptor.{limitsOf, stage1Of, stage2Of};
 
 pub mod fields;
 pub mod index;
+pub mod places;
 
 use crate::descriptor::index::PIIndex;
 use crate::descriptor::index::POIndex;

@@ -2,7 +2,7 @@
 // two indices, accesses and map files, decoded from bytes. It is the only layer that reads a raw bit, but for the planner's pass
 // (docs/DESIGN.md). It judges nothing.
 //
-// No public function has a `requires`: each refuses what it can't read, or is total.
+// No public function but `descriptor::places::leaf_places`, which reads a leaf of a list, has a `requires`: each refuses what it can't read, or is total.
 pub mod access;
 pub mod check;
 pub mod descriptor;

@@ -9,7 +9,7 @@ use lib.Bits.{bitAnd, bitOr}
 use lib.ListN.{length, getD, List·getD-append}
 use lib.Seq.{getD-append-add}
 use Rattle.records.proofs.BitLaws.{ands, ors, and-bits, or-bits}
-use Rattle.records.proofs.Cases.{each}
+use Rattle.records.proofs.Cases.{each, nth}
 use Rattle.records.specs.Bits.{bit}
 use Rattle.records.specs.Access.{accesses}
 use Rattle.records.specs.Mirror.BitLists.{bits}
@@ -39,18 +39,12 @@ six-bits (a ∷ l) f g x e = ap₂ (λ (b : Bool) (t : List Bool). b ∷ t) (e a
 -- an access is open, and good, after a field before what follows
 lane-open : (m k r n : Bool) → (m || (k && (r || n))) ≡ ((k && r) || (m || (k && n)))
 lane-open m k r n =
-    each (m ∷ k ∷ r ∷ n ∷ []) (λ (v : List Bool). b v 0 || (b v 1 && (b v 2 || b v 3))) (λ (v : List Bool). (b v 1 && b v 2) || (b v 0 || (b v 1 && b v 3))) refl
-  where
-    b : List Bool → ℕ → Bool
-    b v j = getD v j false
+    each (m ∷ k ∷ r ∷ n ∷ []) (λ (v : List Bool). nth v 0 || (nth v 1 && (nth v 2 || nth v 3))) (λ (v : List Bool). (nth v 1 && nth v 2) || (nth v 0 || (nth v 1 && nth v 3))) refl
 
 lane-good : (k m p r n q : Bool) → (((k && not m) && p) && ((r && not n) && q)) ≡ (((k && r) && not (m || (k && n))) && (p && q))
 lane-good k m p r n q =
-    each (k ∷ m ∷ p ∷ r ∷ n ∷ q ∷ []) (λ (v : List Bool). ((b v 0 && not (b v 1)) && b v 2) && ((b v 3 && not (b v 4)) && b v 5))
-    (λ (v : List Bool). ((b v 0 && b v 3) && not (b v 1 || (b v 0 && b v 4))) && (b v 2 && b v 5)) refl
-  where
-    b : List Bool → ℕ → Bool
-    b v j = getD v j false
+    each (k ∷ m ∷ p ∷ r ∷ n ∷ q ∷ []) (λ (v : List Bool). ((nth v 0 && not (nth v 1)) && nth v 2) && ((nth v 3 && not (nth v 4)) && nth v 5))
+    (λ (v : List Bool). ((nth v 0 && nth v 3) && not (nth v 1 || (nth v 0 && nth v 4))) && (nth v 2 && nth v 5)) refl
 
 join-bits : (p : Part) (w : Word) → ors (takeBits p) (ands (keepBits p) (wordBits w)) ≡ wordBits (joined p w)
 join-bits p w =
@@ -85,7 +79,7 @@ module _ (x y : List ℕ) (n : ℕ) (f : ℕ → Part) (k : ℕ) (h : k < n) whe
   keep-at = let s = size n f in
       getD-append-add x (pairs n f ++ y) (k * 2) 0 ∙ List·getD-append (pairs n f) y 0 (k * 2) (omega arith) ∙ entry n f k h .0
 
-  take-at : getD (x ++ (pairs n f ++ y)) (length x + k * 2 + 1) 0 ≡ takeOf (f k)
+  pub take-at : getD (x ++ (pairs n f ++ y)) (length x + k * 2 + 1) 0 ≡ takeOf (f k)
   take-at = let s = size n f in
       ap (λ (j : ℕ). getD (x ++ (pairs n f ++ y)) j 0) (add-assoc (length x) (k * 2) 1) ∙ getD-append-add x (pairs n f ++ y) (k * 2 + 1) 0
       ∙ List·getD-append (pairs n f) y 0 (k * 2 + 1) (omega arith) ∙ entry n f k h .1

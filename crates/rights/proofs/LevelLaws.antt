@@ -3,7 +3,6 @@
 use Rattle.records.proofs.Cases.{clash}
 use mathlib.Core.Logic.{_⊎_, inl, inr}
 use mathlib.Core.Path.{_≡_, ap}
-use mathlib.Core.Bool.{false}
 use Prim.Native.Nat.{ℕ}
 use Rattle.records.specs.Access.{accessOf, three, hasRight}
 use Rattle.records.specs.declared.access.Level.{Level}

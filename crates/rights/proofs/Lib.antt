@@ -17,4 +17,6 @@ pub mod Joins
 pub mod WordNumbers
 pub mod WordLaws
 pub mod WordReading
+pub mod GroupLaws
+pub mod GroupedStages
 pub mod Before

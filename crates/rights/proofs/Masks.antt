@@ -18,7 +18,7 @@ use Rattle.records.specs.declared.descriptor.Limits.{Limits}
 use Rattle.records.specs.declared.descriptor.Stage1.{Stage1}
 use Rattle.records.specs.declared.descriptor.Stage2.{Stage2}
 use Rattle.records.specs.declared.setup.LevelBits.{LevelBits}
-use Rattle.records.specs.Setup.{controlOf, setupFrom, bitOf, registerOf}
+use Rattle.records.specs.Setup.{controlOf, setupFrom, bitOf}
 use Rattle.records.specs.declared.setup.Setup.{Setup}
 use Rattle.records.specs.declared.setup.Words.{Words}
 use Rattle.rights.specs.Mirror.Base.{directBase, baseOf, indirectOf, Base, BaseAnswer}
@@ -33,7 +33,6 @@ use Rattle.rights.specs.Mirror.Masks.{levelMask, setupWith, stage1Mask, 
 use Rattle.rights.specs.Promise.{slotTable, rangeMask, levelOf, rangeFrom, rangeOf, put, allOpen, LevelAnswer}
 use Rattle.rights.specs.Steps.{meet}
 use Rattle.rights.specs.Stage2.{xnPx, xnUx, stage2Rights}
-use Rattle.rights.proofs.Agree.{agree}
 use Rattle.rights.proofs.Ranges.{with-register, open-slot, shut-slot}
 use Rattle.rights.specs.Mirror.Pass.{fromBase, stage1Pass, stage2Pass, none, any, both, overlaid, afterStage2, passLevel, passWith, Stage1Pass, Stage2Pass}
 use Rattle.records.specs.declared.access.LevelRights.{LevelRights}

@@ -22,7 +22,7 @@ use Rattle.records.specs.declared.access.Right.the-variants.{Read, Write}
 use Rattle.records.specs.declared.leaf.Leaf.{Leaf}
 use Rattle.records.specs.declared.setup.Control.{Control}
 use Rattle.records.specs.declared.setup.Setup.{Setup}
-use Rattle.rights.specs.Mirror.Parts.{statePart, stage2Part, limitsPart, lastPart, slotPart, stateAt, stage2At, lastAt, descriptorAt, limitsAt, codePartAt}
+use Rattle.rights.specs.Mirror.Parts.{statePart, stage2Part, limitsPart, lastPart, slotPart, stateAt, stage2At, lastAt, descriptorAt, limitsAt, codePartAt, oneMask, unknownMask}
 use Rattle.rights.specs.Mirror.Parts.{stageWords, slotWords, baseWords, joinAt, wholeNumber, stage2Number, slotIf, slotsNumber, limitsIf, lastIndex, directNumber}
 use Rattle.rights.specs.Mirror.Parts.{codeIf, indirectNumber, stage1Number, offNumber, oneNumber, levelsNumber, unknownNumber, knownNumber, leafNumber}
 use Rattle.rights.specs.Mirror.Parts.{stage2Word, slotsWord, directWord, descriptorOf, limitsPartOf, indirectWord, baseWord, offPart, onePart, knownPart, stagesWord, leafWord}
@@ -34,7 +34,7 @@ number-cond : (b : Bool) (x y : Word) → cond b (numberOf x) (numberOf y) ≡ n
 number-cond true x y = refl
 number-cond false x y = refl
 
-whole-number : wholeNumber ≡ numberOf whole
+pub whole-number : wholeNumber ≡ numberOf whole
 unfolding numberOf
 whole-number = refl
 
@@ -85,7 +85,7 @@ stage2-number true e =
     ∙ at-state2 e (joined (stage2Part (stage2Of e .read) (stage2Of e .write) (stage2Of e .xn)) whole)
 
 -- overlay slots
-slot-low : (on : Bool) (v : ℕ) → slotIf on v < 16
+pub slot-low : (on : Bool) (v : ℕ) → slotIf on v < 16
 slot-low true v = omega arith
 slot-low false v = omega arith
 
@@ -189,7 +189,7 @@ module _ (c : Control) (d t : ℕ) where
         (index-low pw ur (c .wxn) (c .pan)) w
         ∙ ap (λ (p : Part). numberOf (joined p w)) (last-is pw (c .wxn) ur (c .pan)))
 
-    direct-number : directNumber (baseWords false (c .two)) stageWords c d t (numberOf w) ≡ numberOf (directWord (c .wxn) (c .pan) first second w)
+    pub direct-number : directNumber (baseWords false (c .two)) stageWords c d t (numberOf w) ≡ numberOf (directWord (c .wxn) (c .pan) first second w)
     unfolding directNumber baseWords
     direct-number =
         ap (λ (n : ℕ). joinAt table (permissionsOf d * 2) (joinAt table (32 + limitsIf (c .unlimited) t * 2) n)) at-last
@@ -197,7 +197,7 @@ module _ (c : Control) (d t : ℕ) where
         ∙ at-first (joined second (joined (lastPart pw (c .wxn) ur (c .pan)) w))
 
 -- Indirect
-code-low : (two : Bool) (u : ℕ) → codeIf two u < 16
+pub code-low : (two : Bool) (u : ℕ) → codeIf two u < 16
 code-low true u = omega arith
 code-low false u = omega arith
 
@@ -251,18 +251,18 @@ off-takes : takeOf offPart ≡ 0
 unfolding takeOf
 off-takes = refl
 
-one-keeps : 0x47C7000000FFFFFF ≡ keepOf onePart
+pub one-keeps : oneMask ≡ keepOf onePart
 unfolding keepOf
 one-keeps = refl
 
-one-takes : takeOf onePart ≡ 0
+pub one-takes : takeOf onePart ≡ 0
 unfolding takeOf
 one-takes = refl
 
-mask-law : (p : Part) (w : Word) → takeOf p ≡ 0 → bitAnd (keepOf p) (numberOf w) ≡ numberOf (joined p w)
+pub mask-law : (p : Part) (w : Word) → takeOf p ≡ 0 → bitAnd (keepOf p) (numberOf w) ≡ numberOf (joined p w)
 mask-law p w e = sym (or-zero-l (bitAnd (keepOf p) (numberOf w))) ∙ ap (λ (n : ℕ). bitOr n (bitAnd (keepOf p) (numberOf w))) (sym e) ∙ join-law p w
 
-off-number : (w : Word) → offNumber (numberOf w) ≡ numberOf (joined offPart w)
+pub off-number : (w : Word) → offNumber (numberOf w) ≡ numberOf (joined offPart w)
 unfolding offNumber
 off-number w = ap (λ (n : ℕ). bitAnd n (numberOf w)) off-keeps ∙ mask-law offPart w off-takes
 
@@ -270,18 +270,22 @@ one-number : (w : Word) → oneNumber (numberOf w) ≡ numberOf (joined onePart 
 unfolding oneNumber
 one-number w = ap (λ (n : ℕ). bitAnd n (numberOf w)) one-keeps ∙ mask-law onePart w one-takes
 
-unknown-keeps : 0x40FFFFFFFFFFFFFF ≡ keepOf (knownPart false)
+pub levels-number : (two : Bool) (w : Word) → levelsNumber two (numberOf w) ≡ numberOf (cond two w (joined onePart w))
+levels-number true w = refl
+levels-number false w = one-number w
+
+pub unknown-keeps : unknownMask ≡ keepOf (knownPart false)
 unfolding keepOf
 unknown-keeps = refl
 
-unknown-takes : takeOf (knownPart false) ≡ 0
+pub known-takes : (k : Bool) → takeOf (knownPart k) ≡ 0
 unfolding takeOf
-unknown-takes = refl
+known-takes k = refl
 
 pub known-number : (k : Bool) (w : Word) → knownNumber k (numberOf w) ≡ numberOf (joined (knownPart k) w)
 unfolding unknownNumber numberOf
 known-number true w = refl
-known-number false w = ap (λ (n : ℕ). bitAnd n (numberOf w)) unknown-keeps ∙ mask-law (knownPart false) w unknown-takes
+known-number false w = ap (λ (n : ℕ). bitAnd n (numberOf w)) unknown-keeps ∙ mask-law (knownPart false) w (known-takes false)
 
 -- THE NUMBER OF A LEAF
 pub number-law : (s : Setup) (f : Leaf) → leafNumber (baseWords (s .control .indirect) (s .control .two)) slotWords stageWords s f ≡ numberOf (leafWord s f)
@@ -290,11 +294,7 @@ number-law s f =
     ap (levelsNumber (s .control .two))
     (ap (λ (n : ℕ). cond (s .control .stage1) (stage1Number (baseWords (s .control .indirect) (s .control .two)) slotWords stageWords s f n) (offNumber n)) (stage2-number (s .control .stage2) (f .stage2))
     ∙ ap₂ (cond (s .control .stage1)) (stage1-number s f second) (off-number second) ∙ number-cond (s .control .stage1) _ _)
-    ∙ levels (s .control .two) (stagesWord s (stage1Of (f .stage1)) (stage2Of (f .stage2)) (limitsOf (f .limits)))
+    ∙ levels-number (s .control .two) (stagesWord s (stage1Of (f .stage1)) (stage2Of (f .stage2)) (limitsOf (f .limits)))
   where
     second : Word
     second = stage2Word (s .control .stage2) (stage2Of (f .stage2))
-
-    levels : (two : Bool) (w : Word) → levelsNumber two (numberOf w) ≡ numberOf (cond two w (joined onePart w))
-    levels true w = refl
-    levels false w = one-number w

@@ -2,12 +2,12 @@
 use mathlib.Core.Path.{_≡_, refl, ap, ap₂, _∙_}
 use mathlib.Core.Bool.{Bool, true, false, not, _&&_, _||_, or-false}
 use mathlib.Core.List.{List, [], _∷_}
-use Prim.Native.Nat.{ℕ, _+_, _*_, _/_, _%_, _^_, _<_}
+use Prim.Native.Nat.{ℕ, _*_, _/_, _%_, _^_, _<_}
 use lib.Bits.{bitOr, bitXor}
 use lib.Dec.{eqb}
-use lib.ListN.{getD, take, drop}
+use lib.ListN.{take, drop}
 use Rattle.records.proofs.BitLaws.{other, xors, xor-bits, low-bits, high-bits, some, none-bits, or-none}
-use Rattle.records.proofs.Cases.{clash, upto, at, each}
+use Rattle.records.proofs.Cases.{clash, upto, at, each, nth}
 use Rattle.records.specs.Access.{accesses, accessAt}
 use Rattle.records.specs.Mirror.BitLists.{bits}
 use Rattle.records.specs.declared.access.Access.{Access}
@@ -30,7 +30,7 @@ cause-in w n h g =
     six = rw (part w 0, part w 8, part w 16, part w 24, part w 32, part w 40)
 
 -- what is refused: an access that meets a refusal or has a right to memory that is not known, and a pair of base codes
-abbrev pub refusedAt : Word → Access → Bool
+abbrev refusedAt : Word → Access → Bool
 refusedAt w a = w .meets a || (w .right a && not (w .known))
 
 abbrev pub refusals : Word → List Bool
@@ -39,21 +39,15 @@ refusals w = sixBits (refusedAt w) (w .codes 0 ∷ w .codes 1 ∷ w .codes 2 ∷
 -- an access is refused where it is open and not good
 lane-refused : (r m k : Bool) → other (r || m) ((r && not m) && k) ≡ (m || (r && not k))
 lane-refused r m k =
-    each (r ∷ m ∷ k ∷ []) (λ (v : List Bool). other (b v 0 || b v 1) ((b v 0 && not (b v 1)) && b v 2)) (λ (v : List Bool). b v 1 || (b v 0 && not (b v 2))) refl
-  where
-    b : List Bool → ℕ → Bool
-    b v j = getD v j false
+    each (r ∷ m ∷ k ∷ []) (λ (v : List Bool). other (nth v 0 || nth v 1) ((nth v 0 && not (nth v 1)) && nth v 2)) (λ (v : List Bool). nth v 1 || (nth v 0 && not (nth v 2))) refl
 
 -- the third bit of the codes stands apart
 codes-apart : (f : Access → Bool) (x y z : Bool)
     → (not (some (sixBits f (other x z ∷ y ∷ []))) && not (some (z ∷ []))) ≡ not (some (sixBits f (x ∷ y ∷ z ∷ [])))
 codes-apart f x y z =
     each (f (accessAt 0) ∷ f (accessAt 1) ∷ f (accessAt 2) ∷ f (accessAt 3) ∷ f (accessAt 4) ∷ f (accessAt 5) ∷ x ∷ y ∷ z ∷ [])
-    (λ (v : List Bool). not (some (b v 0 ∷ b v 1 ∷ b v 2 ∷ b v 3 ∷ b v 4 ∷ b v 5 ∷ other (b v 6) (b v 8) ∷ b v 7 ∷ [])) && not (some (b v 8 ∷ [])))
-    (λ (v : List Bool). not (some (b v 0 ∷ b v 1 ∷ b v 2 ∷ b v 3 ∷ b v 4 ∷ b v 5 ∷ b v 6 ∷ b v 7 ∷ b v 8 ∷ []))) refl
-  where
-    b : List Bool → ℕ → Bool
-    b v j = getD v j false
+    (λ (v : List Bool). not (some (nth v 0 ∷ nth v 1 ∷ nth v 2 ∷ nth v 3 ∷ nth v 4 ∷ nth v 5 ∷ other (nth v 6) (nth v 8) ∷ nth v 7 ∷ [])) && not (some (nth v 8 ∷ [])))
+    (λ (v : List Bool). not (some (nth v 0 ∷ nth v 1 ∷ nth v 2 ∷ nth v 3 ∷ nth v 4 ∷ nth v 5 ∷ nth v 6 ∷ nth v 7 ∷ nth v 8 ∷ []))) refl
 
 pub refused-in : (w : Word) → let x = bitXor (numberOf w / 2 ^ 48) (numberOf w / 2 ^ 56) in eqb (bitOr (x % 2 ^ 8) (x / 2 ^ 14)) 0 ≡ not (some (refusals w))
 unfolding numberOf

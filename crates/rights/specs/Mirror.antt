@@ -8,3 +8,4 @@ pub mod Table
 pub mod Words
 pub mod Parts
 pub mod Agreement
+pub mod Groups

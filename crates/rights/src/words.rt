@@ -7,6 +7,7 @@ ghost use Prim.Native.Nat.{_<_};
 ghost use Rattle.records.specs.Access.{digit};
 ghost use Rattle.rights.specs.Mirror.Parts.{joinAt, slotIf, limitsIf, lastIndex, codeIf, stage2Number, overlaidNumber, slotsNumber, directNumber, indirectNumber, stage1Number, offNumber, oneNumber, levelsNumber, unknownNumber, knownNumber, leafNumber};
 
+pub mod groups;
 pub mod tables;
 
 use records::descriptor::fields::indirect_state;
@@ -19,7 +20,14 @@ use records::setup::Control;
 use records::setup::Setup;
 
 // No access is taken away.
-const WHOLE: u64 = 0x7FFF_0000_0000_0000;
+pub(crate) const WHOLE: u64 = 0x7FFF_0000_0000_0000;
+
+// Masks: all that a word has; what is judged with one level; and a word of memory that is not known, of which no access is good.
+pub(crate) const MASK_ALL: u64 = 0x7FFF_FFFF_FFFF_FFFF;
+
+pub(crate) const MASK_ONE_LEVEL: u64 = 0x47C7_0000_00FF_FFFF;
+
+pub(crate) const MASK_UNKNOWN: u64 = 0x40FF_FFFF_FFFF_FFFF;
 
 // The two words of a field at index `i`, before the word of what follows.
 fn join(t: &[u64; 64], i: usize, w: u64) -> u64
@@ -30,7 +38,7 @@ fn join(t: &[u64; 64], i: usize, w: u64) -> u64
 }
 
 // The same of the stages' table.
-fn join_stage(t: &[u64; 96], i: usize, w: u64) -> u64
+pub(crate) fn join_stage(t: &[u64; 96], i: usize, w: u64) -> u64
     requires { ⌜ i < 95 ⌝ }
     ensures { λ r. ⌜ r ≡ joinAt (now (t .entry)) i w ⌝ }
 {
@@ -49,7 +57,7 @@ fn stage2_word(t: &[u64; 96], on: bool, e: u64) -> u64
 }
 
 // The slot that counts: 7, which stops nothing, where no overlay applies.
-fn slot_if(on: bool, v: u8) -> usize
+pub(crate) fn slot_if(on: bool, v: u8) -> usize
     ensures { λ r. ⌜ (r ≡ slotIf on v) × (r < 16) ⌝ }
 {
     if on {
@@ -81,7 +89,7 @@ fn slots_word(slots: &[u64; 64], s: Setup, d: u64, p: bool, u: bool, w: u64) -> 
 }
 
 // Limits, unless disabled.
-fn limits_if(unlimited: bool, t: u8) -> usize
+pub(crate) fn limits_if(unlimited: bool, t: u8) -> usize
     ensures { λ r. ⌜ (r ≡ limitsIf unlimited t) × (r < 16) ⌝ }
 {
     if unlimited {
@@ -102,7 +110,7 @@ fn digit_of(b: bool) -> usize
 
 // What the last steps of Direct read, where the rights that the fields before them keep are bits 48 to 53 of `m`: pw, WXN, ur and PAN. uw holds where pw and
 // ur do.
-fn last_index(wxn: bool, pan: bool, m: u64) -> usize
+pub(crate) fn last_index(wxn: bool, pan: bool, m: u64) -> usize
     ensures { λ r. ⌜ (r ≡ lastIndex wxn pan m) × (r < 16) ⌝ }
 {
     let read = ((m >> 49) % 2 + (m >> 51) % 2 * 4) as usize;
@@ -120,7 +128,7 @@ fn direct_word(base: &[u64; 64], t: &[u64; 96], c: Control, d: u64, limits: u8, 
 }
 
 // The unprivileged code, which is not read with one level.
-fn code_if(two: bool, u: u8) -> usize
+pub(crate) fn code_if(two: bool, u: u8) -> usize
     ensures { λ r. ⌜ (r ≡ codeIf two u) × (r < 16) ⌝ }
 {
     if two {
@@ -162,7 +170,7 @@ fn stage1_word(base: &[u64; 64], slots: &[u64; 64], t: &[u64; 96], s: Setup, f: 
 }
 
 // Stage 1 off: no base code is read.
-fn off_word(w: u64) -> u64
+pub(crate) fn off_word(w: u64) -> u64
     ensures { λ r. ⌜ r ≡ offNumber w ⌝ }
 {
     0x3F3F_FFFF_FFFF_FFFF & w
@@ -172,10 +180,10 @@ fn off_word(w: u64) -> u64
 fn one_word(w: u64) -> u64
     ensures { λ r. ⌜ r ≡ oneNumber w ⌝ }
 {
-    0x47C7_0000_00FF_FFFF & w
+    MASK_ONE_LEVEL & w
 }
 
-fn levels_word(two: bool, w: u64) -> u64
+pub(crate) fn levels_word(two: bool, w: u64) -> u64
     ensures { λ r. ⌜ r ≡ levelsNumber two w ⌝ }
 {
     if two {
@@ -199,7 +207,7 @@ pub fn leaf_word(base: &[u64; 64], slots: &[u64; 64], t: &[u64; 96], s: Setup, f
 fn unknown_word(w: u64) -> u64
     ensures { λ r. ⌜ r ≡ unknownNumber w ⌝ }
 {
-    0x40FF_FFFF_FFFF_FFFF & w
+    MASK_UNKNOWN & w
 }
 
 // The word of a leaf whose memory is known or not.

@@ -28,7 +28,7 @@ const INDIRECT_OVERLAYS: u32 = BOTH_STAGES | INDIRECT | OVERLAYS;
 
 /// The modes, in the order of the tables.
 #[rustfmt::skip]
-pub(crate) const MODES: [Mode; 7] = [
+pub(crate) const MODES: [Mode; 8] = [
     mode("direct", "Direct", BOTH_STAGES, 0),
     mode("direct-overlays", "Direct with overlays", DIRECT_OVERLAYS, 0),
     mode("indirect", "Indirect", BOTH_STAGES | INDIRECT, 0),
@@ -36,6 +36,7 @@ pub(crate) const MODES: [Mode; 7] = [
     mode("direct-faults", "Direct with faults", DIRECT_OVERLAYS, 40),
     mode("indirect-faults", "Indirect with faults", INDIRECT_OVERLAYS, 40),
     mode("one-level", "One level, stage 1 alone", STAGE1, 0),
+    mode("stage-2", "Stage 2 alone", TWO_LEVELS | STAGE2, 0),
 ];
 
 const fn mode(name: &'static str, title: &'static str, control: u32, faults: usize) -> Mode {

@@ -12,6 +12,12 @@ const STAGE1_OPEN: u64 = 0x441;
 const STAGE2_OPEN: u64 = 0x4C1;
 const ACCESSES: std::ops::Range<u64> = 0..6;
 
+/// Compares the list of one leaf, and a list that is long enough to be judged by groups of fields.
+fn lists_of(setup: &Setup, leaf: &Leaf) {
+    compare::list_exactly(setup, leaf).ok();
+    compare::list_exactly(setup, [*leaf; 65].as_flattened()).ok();
+}
+
 /// Every MAIR byte with every MemAttr and SH of both stages, FWB clear and set, stage 2 off too; as
 /// single accesses and as lists.
 #[test]
@@ -31,7 +37,7 @@ fn memory_types() {
             let stage2 = STAGE2_OPEN | mem_attr << 2 | sh << 8;
             let leaf = leaf(stage1 | first << 8, stage2, 0, 0);
             compare::judge(&setup, &leaf, 0).ok();
-            compare::list_exactly(&setup, &leaf).ok();
+            lists_of(&setup, &leaf);
         }
     }
 }
@@ -47,7 +53,7 @@ fn memory_types_with_stage_1_off() {
         for access in ACCESSES {
             compare::judge(&setup, &leaf, access).ok();
         }
-        compare::list_exactly(&setup, &leaf).ok();
+        lists_of(&setup, &leaf);
     }
 }
 
@@ -74,7 +80,7 @@ fn direct_forms() {
     }
 }
 
-/// Every choice of valid, AF and the permission bits of both descriptors, as lists of one leaf.
+/// Every choice of valid, AF and the permission bits of both descriptors, as lists of that leaf.
 #[test]
 fn descriptor_forms() {
     let overlays = PRIVILEGED_OVERLAY | UNPRIVILEGED_OVERLAY;
@@ -84,7 +90,7 @@ fn descriptor_forms() {
         let descriptor = |form| at_places(form, &[0, 6, 7, 10, 51, 53, 54]);
         let (stage1, stage2) = (descriptor(forms & 127), descriptor(forms >> 7));
         let leaf = leaf(stage1 | 1 << 60, stage2, 0, 0);
-        compare::list_exactly(&setup, &leaf).ok();
+        lists_of(&setup, &leaf);
     }
 }
 
@@ -121,7 +127,7 @@ fn base_codes_and_slots() {
             for access in ACCESSES {
                 compare::judge(&setup, &leaf, access).ok();
             }
-            compare::list_exactly(&setup, &leaf).ok();
+            lists_of(&setup, &leaf);
         }
     }
 }
@@ -155,7 +161,7 @@ fn control_words() {
         for access in 0..8 {
             compare::judge(&setup, &leaf, access).ok();
         }
-        compare::list_exactly(&setup, &leaf).ok();
+        lists_of(&setup, &leaf);
         for level in 0..3 {
             compare::plan(&setup, level, &leaf).ok();
         }

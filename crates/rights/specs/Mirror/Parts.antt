@@ -201,16 +201,26 @@ stage1Number b o t s f w =
 unfoldable pub offNumber : ℕ → ℕ
 offNumber w = bitAnd 0x3F3FFFFFFFFFFFFF w
 
+-- masks: all that a word has, what is judged with one level, and memory that is not known
+abbrev pub allMask : ℕ
+allMask = 0x7FFFFFFFFFFFFFFF
+
+abbrev pub oneMask : ℕ
+oneMask = 0x47C7000000FFFFFF
+
+abbrev pub unknownMask : ℕ
+unknownMask = 0x40FFFFFFFFFFFFFF
+
 -- one level: the unprivileged accesses are not judged
 unfoldable pub oneNumber : ℕ → ℕ
-oneNumber w = bitAnd 0x47C7000000FFFFFF w
+oneNumber w = bitAnd oneMask w
 
 abbrev pub levelsNumber : Bool → ℕ → ℕ
 levelsNumber two w = cond two w (oneNumber w)
 
 -- memory that is not known: no access is good
 unfoldable pub unknownNumber : ℕ → ℕ
-unknownNumber w = bitAnd 0x40FFFFFFFFFFFFFF w
+unknownNumber w = bitAnd unknownMask w
 
 abbrev pub knownNumber : Bool → ℕ → ℕ
 knownNumber known w = cond known w (unknownNumber w)

@@ -8,7 +8,6 @@ use Rattle.records.specs.Access.{three, levelIn}
 use Rattle.records.specs.Descriptor.{slotAt}
 use Rattle.records.specs.Setup.{bitOf, registerOf}
 use Rattle.records.specs.declared.access.Level.{Level}
-use Rattle.records.specs.declared.access.Level.the-variants.{Privileged, Unprivileged}
 use Rattle.records.specs.declared.access.LevelRights.{LevelRights}
 use Rattle.records.specs.declared.descriptor.Limits.{Limits}
 use Rattle.records.specs.declared.descriptor.Stage1.{Stage1}
@@ -17,7 +16,7 @@ use Rattle.records.specs.declared.setup.LevelBits.{LevelBits}
 use Rattle.records.specs.declared.setup.Setup.{Setup}
 use Rattle.rights.specs.Mirror.Base.{Base, BaseAnswer, baseOf}
 use Rattle.rights.specs.Overlay.{slotRights}
-use Rattle.rights.specs.Promise.{LevelAnswer, levelOf}
+use Rattle.rights.specs.Promise.{LevelAnswer}
 use Rattle.rights.specs.Stage1.{dirty}
 use Rattle.rights.specs.Stage2.{stage2Rights}
 use Rattle.rights.specs.Steps.{everything}

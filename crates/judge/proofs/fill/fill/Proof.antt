@@ -8,6 +8,7 @@ use lib.ListN.{length, length-set}
 use denote.Ref.{now}
 use borrow.Author.Needs.{needs}
 use Rattle.records.proofs.Halves.{Entries, one-entry}
+use Rattle.records.specs.declared.leaf.Leaf.{Leaf}
 use Rattle.judge.specs.Mirror.Words.{total, rightsIn, causeIn, wordAt, clear}
 use Rattle.judge.proofs.Filled.{put-length, put-six, word-is, marks-are}
 use Rattle.judge.proofs.fill.fill.Statement.{statement}
@@ -81,11 +82,12 @@ loop-again c =
     let d = c .before .before .before .before .before .before .before in
     let l = d .before .before .before .before .before .loop in
     let a = start d .args in
-    let m = c .before .before .before .before .before .before in (
+    let m = c .before .before .before .before .before .before in
+    let e = d .before .before .before .leaf-of .ensures in (
       omega arith,
       simp length-set (l .inv .1),
       ap length (c .before .before .put .ensures) ∙ put-length (l .causes) (6 * l .i) _ ∙ l .inv .2,
-      rw (m .marks-in .ensures) (marks-are (a .s) (now (a .leaves)) (l .i) (l .marks) (l .limits) (l .forbidden) _ _ (d .before .before .before .leaf-of .ensures) (word d) (l .inv .3)),
+      rw (m .marks-in .ensures) (marks-are (a .s) (now (a .leaves)) (l .i) (l .marks) (l .limits) (l .forbidden) _ _ _ (ap (λ (f : Leaf). f .limits) e) (ap (λ (f : Leaf). f .forbidden) e) (word d) (l .inv .3)),
       one-entry _ (l .rights) (l .i) (room d .0) (l .inv .4) _ (ap rightsIn (word d)),
       rw (c .before .before .put .ensures) (put-six (a .s) (now (a .leaves)) (l .causes) (l .i) _ (room d .1) (word d) (l .inv .5)),
     )

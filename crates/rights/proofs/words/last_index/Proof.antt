@@ -1,5 +1,4 @@
 -- `last_index` meets its contract: what it computes is the definition, as it stands. Assumes nothing.
-use mathlib.Core.Path.{_≡_}
 use native.Mathlib.Omega.{arith}
 use borrow.Author.Needs.{needs}
 use Rattle.rights.proofs.words.last_index.Statement.{statement}

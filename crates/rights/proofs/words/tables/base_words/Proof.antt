@@ -1,5 +1,4 @@
 -- `base_words` meets its contract: each entry is what the definitions give. Assumes nothing.
-use mathlib.Core.Path.{refl}
 use Rattle.rights.specs.Direct.{ap}
 use Rattle.rights.specs.Indirect.{codeOf}
 use Rattle.rights.specs.Mirror.Parts.{baseWords}
