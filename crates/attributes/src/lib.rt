@@ -3,6 +3,8 @@
 // right, no limit, no forbidden access and no fault. The descriptor of a stage that is off is ignored.
 //
 // No public function has a `requires`: the fields of a record are read within their widths.
+#![tactic(auto)]
+
 mod combine;
 pub mod known;
 mod mair;

@@ -1,6 +1,8 @@
 // The judge, above the layers of rights and attributes (document 01, 'The order a judgement is made in'): `access::judge_access` judges one access of
 // a leaf, `list::list_rights` all accesses of a list of leaves. No public function has a `requires`, and none relies on an earlier check by its
 // caller.
+#![tactic(auto)]
+
 pub mod access;
 pub mod answers;
 mod fill;

@@ -1,5 +1,7 @@
 // The program of document 01: reads a map file from standard input and prints its lines. The text is made by `text::write_listing`; this
 // reads and writes.
+#![tactic(auto)]
+
 use libc::{STDIN_FILENO, STDOUT_FILENO};
 
 // A longest map file is 43,063 bytes, a setup field and 2,048 leaf fields. One byte more is read, so that a longer input is seen to be

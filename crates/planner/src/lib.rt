@@ -3,6 +3,8 @@
 //
 // `plan_level` is the one public function and has no `requires`. Of the rights layer the planner sees the checks, `promise` with specs/Promise and
 // proofs/PromiseLaws, and the setup's table that it hands through (`pass::table`); tests/promise holds it to that.
+#![tactic(auto)]
+
 ghost use Rattle.std.specs.Prelude.{◌≡◌, ◌/◌, length};
 ghost use Rattle.planner.specs.Demands.{PlannerDemands};
 ghost use Rattle.planner.specs.Mirror.Masks.{plans_by};

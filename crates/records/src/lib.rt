@@ -3,6 +3,8 @@
 // (docs/DESIGN.md). It judges nothing.
 //
 // No public function but `descriptor::places::leaf_places`, which reads a leaf of a list, has a `requires`: each refuses what it can't read, or is total.
+#![tactic(auto)]
+
 pub mod access;
 pub mod check;
 pub mod descriptor;

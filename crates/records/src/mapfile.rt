@@ -46,7 +46,7 @@ fn leaf_fields(file: &[u8], values: &mut [u8]) -> Fields
             let from = at + 3;
             let next = at + 21;
             let to = n * 18;
-            bytes::copy(&file[from..next], &mut values[to..]);
+            values[to..to + 18].copy_from_slice(&file[from..next]);
             at = next;
             n += 1;
         } else {
@@ -66,7 +66,7 @@ fn deliver(values: &[u8], n: usize, leaves: &mut [u8]) -> FileRead
     if leaves.len() < end {
         return FileRead::Refused(11);
     }
-    bytes::copy(&values[..end], leaves);
+    leaves[..end].copy_from_slice(&values[..end]);
     FileRead::Map(n)
 }
 

@@ -4,6 +4,8 @@
 // There are two ways through the rules. `order::judge_rights` takes one access by the paper's steps and relies on no earlier check. `words`
 // takes all accesses of a leaf at once, with their causes, for the list. `promise` is what the planner may know, and `pass` all accesses of a level, for the
 // planner.
+#![tactic(auto)]
+
 pub mod answers;
 pub mod checks;
 mod direct;

@@ -2,6 +2,8 @@
 // byte slices as pointer and length, has no `requires`, and answers 64 bits, packed as specs/Packing.antt defines and
 // docs/INTERFACE.md lists. Of each it is promised that the answer is packed so, and that the values read from it are those of an answer that meets the
 // user's demands.
+#![tactic(auto)]
+
 ghost use Rattle.std.specs.Prelude.{◌≡◌, ◌<◌};
 ghost use Rattle.judge.specs.Answers.{judgement_values, list_values};
 ghost use Rattle.judge.specs.Demands.{JudgeDemands, ListDemands};

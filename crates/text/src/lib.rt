@@ -1,5 +1,7 @@
 // The program's text (document 01, 'File, program, host'): the lines for a map file, made in a lent buffer. `write_listing` is the one public
 // function and has no `requires`.
+#![tactic(auto)]
+
 ghost use Rattle.std.specs.Prelude.{◌≡◌, ◌+◌, ◌*◌, ◌≤◌, ◌<◌, length};
 ghost use Rattle.io.specs.Counts.{IsPrefixLen};
 ghost use Rattle.text.specs.Lines.{refusal_line, leaf_line};

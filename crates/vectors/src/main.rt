@@ -13,6 +13,8 @@
 // 8 lists rights: a setup, the list's length, the output's, an index (output bytes 0, that one and the next are printed), two leaves, the length of the causes.
 // 9 plans a level: a setup, the list's length, the level, two leaves.
 // What of a list lies past its two leaves is zeros.
+#![tactic(auto)]
+
 use crate::table::Case;
 use bytes::scan::find;
 use libc::STDIN_FILENO;
