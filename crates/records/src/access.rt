@@ -76,6 +76,7 @@ fn right_of(n: u64) -> Right
 }
 
 // The access of a number.
+#[tactic(auto, unfolding(crate::specs::Access::read_access))]
 pub fn read_access(n: u64) -> AccessRead
     ensures { result ≡ read_access n }
 {

@@ -52,6 +52,7 @@ pub struct Stage2 {
 }
 
 // The limits of a limits byte.
+#[tactic(auto, unfolding(crate::specs::Descriptor::limits_of))]
 pub fn read_limits(l: u8) -> Limits
     ensures { result ≡ limits_of l }
 {
@@ -64,6 +65,7 @@ pub fn read_limits(l: u8) -> Limits
 }
 
 // The fields of a stage 1 descriptor.
+#[tactic(auto, unfolding(crate::specs::Descriptor::stage1_of))]
 pub fn read_stage1(d: u64) -> Stage1
     ensures { result ≡ stage1_of d }
 {
@@ -85,6 +87,7 @@ pub fn read_stage1(d: u64) -> Stage1
 }
 
 // The fields of a stage 2 descriptor.
+#[tactic(auto, unfolding(crate::specs::Descriptor::stage2_of))]
 pub fn read_stage2(d: u64) -> Stage2
     ensures { result ≡ stage2_of d }
 {

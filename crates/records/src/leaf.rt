@@ -20,6 +20,7 @@ pub enum LeafRead {
 }
 
 // The leaf of 18 bytes, or 13.
+#[tactic(auto, unfolding(crate::specs::Leaf::read_leaf, crate::specs::Leaf::leaf_of))]
 pub fn read_leaf(s: &[u8]) -> LeafRead
     ensures { result ≡ read_leaf s.now }
 {

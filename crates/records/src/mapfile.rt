@@ -21,6 +21,7 @@ enum Fields {
 }
 
 // Whether a whole field with this tag and length begins at index `at`.
+#[tactic(auto, unfolding(crate::specs::MapFile::begins_with))]
 fn begins_with(s: &[u8], at: usize, tag: u8, len: usize) -> bool
     requires { (at ≤ length s.now) × (len ≤ 65535) }
     ensures { result ≡ begins_with tag len (drop at s.now) }
@@ -87,6 +88,7 @@ pub fn read_file(file: &[u8], leaves: &mut [u8]) -> FileRead
 }
 
 // The setup's bytes, in a file that `read_file` reads as a map: bytes 3 to 54 of any file, and none of one that is shorter.
+#[tactic(auto, unfolding(crate::specs::MapFile::setup_in))]
 pub fn setup_bytes(file: &[u8]) -> &[u8]
     ensures { result.now ≡ setup_in file.now }
 {

@@ -102,6 +102,7 @@ pub fn byte_in(mair: u64, attrindx: u8) -> u8
     ((mair >> (8 * (attrindx % 8))) % 256) as u8
 }
 
+#[tactic(auto, unfolding(crate::specs::Setup::words_of))]
 fn words_of(s: &[u8]) -> Words
     requires { length s.now ≡ 52 }
     ensures { result ≡ words_of s.now }
@@ -122,6 +123,7 @@ fn words_of(s: &[u8]) -> Words
 }
 
 // The words of a setup of 52 bytes, or 13.
+#[tactic(auto, unfolding(crate::specs::Setup::read_words))]
 pub fn read_words(s: &[u8]) -> WordsRead
     ensures { result ≡ read_words s.now }
 {
@@ -132,6 +134,7 @@ pub fn read_words(s: &[u8]) -> WordsRead
 }
 
 // The control bits of a control word.
+#[tactic(auto, unfolding(crate::specs::Setup::control_of))]
 pub fn read_control(w: u32) -> Control
     ensures { result ≡ control_of w }
 {
@@ -156,6 +159,7 @@ pub fn read_control(w: u32) -> Control
 }
 
 // The setup of these words.
+#[tactic(auto, unfolding(crate::specs::Setup::setup_from))]
 fn setup_from(w: Words) -> Setup
     ensures { result ≡ setup_from w }
 {
