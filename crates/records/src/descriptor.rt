@@ -10,7 +10,7 @@ pub mod places;
 use crate::descriptor::index::{PIIndex, POIndex};
 
 // Table limits, gathered over the walk.
-#[derive(Drop)]
+#[derive(Clone, Copy)]
 pub struct Limits {
     pub aptable0: bool,
     pub aptable1: bool,
@@ -20,7 +20,7 @@ pub struct Limits {
 }
 
 // The fields of a stage 1 descriptor. `bit7` and `bit51` are the bits that tell dirty state under Indirect and Direct.
-#[derive(Drop)]
+#[derive(Clone, Copy)]
 pub struct Stage1 {
     pub valid: bool,
     pub attrindx: u8,
@@ -39,7 +39,7 @@ pub struct Stage1 {
 }
 
 // The fields of a stage 2 descriptor. `read` and `write` are bits 0 and 1 of S2AP; `bit51` tells dirty state.
-#[derive(Drop)]
+#[derive(Clone, Copy)]
 pub struct Stage2 {
     pub valid: bool,
     pub memattr: u8,

@@ -4,7 +4,7 @@ ghost use Rattle.records.specs.Leaf.{read_leaf};
 
 use crate::number::word;
 
-#[derive(Drop)]
+#[derive(Clone, Copy)]
 pub struct Leaf {
     pub stage1: u64,
     pub stage2: u64,
@@ -13,7 +13,7 @@ pub struct Leaf {
 }
 
 // A leaf, or a refusal's number.
-#[derive(Drop)]
+#[derive(Clone, Copy)]
 pub enum LeafRead {
     Read(Leaf),
     Refused(u8),

@@ -7,14 +7,14 @@ ghost use Rattle.records.specs.Mirror.LeafFields.{leaves_in, delivered};
 use crate::number::short;
 
 // The number of leaves of a map file, or a refusal's number.
-#[derive(Drop)]
+#[derive(Clone, Copy)]
 pub enum FileRead {
     Map(usize),
     Refused(u8),
 }
 
 // What was found from the first leaf field on: whole leaf fields, or something else.
-#[derive(Drop)]
+#[derive(Clone, Copy)]
 enum Fields {
     Whole(usize),
     IllFormed,

@@ -7,21 +7,21 @@ use crate::access::Level;
 use crate::number::{half, word};
 
 // A bit for each privilege level.
-#[derive(Drop)]
+#[derive(Clone, Copy)]
 pub struct LevelBits {
     pub privileged: bool,
     pub unprivileged: bool,
 }
 
 // A register for each privilege level.
-#[derive(Drop)]
+#[derive(Clone, Copy)]
 pub struct LevelRegisters {
     pub privileged: u64,
     pub unprivileged: u64,
 }
 
 // A setup as it stands: the control word and six registers.
-#[derive(Drop)]
+#[derive(Clone, Copy)]
 pub struct Words {
     pub control: u32,
     pub mair: u64,
@@ -31,14 +31,14 @@ pub struct Words {
 }
 
 // The words of a setup, or a refusal's number.
-#[derive(Drop)]
+#[derive(Clone, Copy)]
 pub enum WordsRead {
     Read(Words),
     Refused(u8),
 }
 
 // The control bits, 0 to 12 in order, and whether one above 12 is set.
-#[derive(Drop)]
+#[derive(Clone, Copy)]
 pub struct Control {
     // Two privilege levels.
     pub two: bool,
@@ -59,7 +59,7 @@ pub struct Control {
 }
 
 // A setup: the control bits by name, and the registers.
-#[derive(Drop)]
+#[derive(Clone, Copy)]
 pub struct Setup {
     pub control: Control,
     pub mair: u64,
@@ -69,7 +69,7 @@ pub struct Setup {
 }
 
 // A setup, or a refusal's number.
-#[derive(Drop)]
+#[derive(Clone, Copy)]
 pub enum SetupRead {
     Read(Setup),
     Refused(u8),

@@ -9,14 +9,14 @@ use records::leaf::Leaf;
 use records::setup::Control;
 
 // An access that may be judged, or a refusal's number.
-#[derive(Drop)]
+#[derive(Clone, Copy)]
 pub enum AccessCheck {
     Known(Access),
     Refused(u8),
 }
 
 // A planner's level, or a refusal's number.
-#[derive(Drop)]
+#[derive(Clone, Copy)]
 pub enum LevelCheck {
     Known(Level),
     Refused(u8),

@@ -12,7 +12,7 @@ use records::access::Level;
 use records::descriptor::index::POIndex;
 
 // The place of the leaf's slot, the rights of the level as bits 0 to 2 with every slot bit on and with every one off; or a refusal's number.
-#[derive(Drop)]
+#[derive(Clone, Copy)]
 pub enum RangeMask {
     Range { place: usize, full: u8, bare: u8 },
     Refused(u8),

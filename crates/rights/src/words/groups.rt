@@ -15,7 +15,7 @@ use records::descriptor::places::{Places, SlotsPlace, codes_descriptor, slots_de
 use records::setup::{Control, Setup};
 
 // What some fields keep, and what they take away.
-#[derive(Drop)]
+#[derive(Clone, Copy)]
 pub(crate) struct Pair {
     pub keeps: u64,
     pub takes: u64,
