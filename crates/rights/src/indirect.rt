@@ -84,6 +84,7 @@ fn base_code(n: u8) -> Code
 }
 
 // The codes at a PIIndex of both PIRs.
+#[tactic(auto, unfolding(crate::specs::Indirect::codes_at))]
 pub(crate) fn codes_at(pir: LevelRegisters, i: PIIndex) -> Codes
     ensures { result ≡ codes_at pir i }
 {
