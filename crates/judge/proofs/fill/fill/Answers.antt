@@ -1,5 +1,5 @@
 -- One leaf more, and the end.
-use Rattle.std.proofs.Common.{◌≡◌, ◌≤◌, ◌<◌, ◌+◌, ◌*◌, ℕ, length, refl, ap, ◌∙◌, arith, length-set}
+use Rattle.std.proofs.Common.{◌≡◌, ◌≤◌, ◌<◌, ◌+◌, ◌*◌, length, refl, ap, ◌∙◌, arith, length-set}
 use Rattle.records.proofs.Halves.{one_entry}
 use Rattle.records.specs.declared.leaf.Leaf.{Leaf}
 use Rattle.judge.specs.Mirror.Words.{rights_in, word_at}
@@ -17,7 +17,6 @@ loop-i-init c = record {
 }
 
 pub loop-i-preserved : goal.loop-i-preserved
-
 loop-i-preserved c =
     let l = c.loop-i in
     let a = c.args in
@@ -25,8 +24,8 @@ loop-i-preserved c =
     let r : l.i < length l.rights = omega (arith, n, l.invariant.rights_kept, c.requires.1) in
     let k : 6 * l.i + 8 ≤ length l.causes = omega (arith, n, l.invariant.causes_kept, c.requires.2) in
     let w : c.known_word-w.result ≡ word_at a.s a.leaves.now l.i =
-        c.known_word-w.ensures
-        ∙ word-is a.s a.leaves.now a.base.now a.slots.now a.stages.now a.memory.now c.requires.3 l.i _ _ _ c.leaf_of-l.ensures c.is_known-known.ensures c.leaf_word.ensures in
+    c.known_word-w.ensures
+    ∙ word-is a.s a.leaves.now a.base.now a.slots.now a.stages.now a.memory.now c.requires.3 l.i _ _ _ c.leaf_of-l.ensures c.is_known-known.ensures c.leaf_word.ensures in
     record {
       within = omega (arith, n);
       rights_kept = simp length-set l.invariant.rights_kept;

@@ -1,5 +1,5 @@
 -- One leaf more, and the end.
-use Rattle.std.proofs.Common.{◌≡◌, ◌≤◌, ◌<◌, ◌+◌, ◌*◌, ℕ, length, refl, ap, ◌∙◌, arith, length-set}
+use Rattle.std.proofs.Common.{◌≡◌, ◌≤◌, ◌<◌, ◌+◌, ◌*◌, length, refl, ap, ◌∙◌, arith, length-set}
 use Rattle.records.specs.Leaf.{leaf_at}
 use Rattle.records.proofs.Halves.{one_entry}
 use Rattle.records.specs.declared.descriptor.places.LeafPlaces.{LeafPlaces}
@@ -26,7 +26,7 @@ loop-i-preserved c =
     let r : l.i < length l.rights = omega (arith, n, l.invariant.rights_kept, c.requires.n_in_bounds.1) in
     let k : 6 * l.i + 8 ≤ length l.causes = omega (arith, n, l.invariant.causes_kept, c.requires.n_in_bounds.2) in
     let w : c.indirect_word-w.result ≡ word_at a.s a.leaves.now l.i =
-        rw c.leaf_places-f.ensures at c.indirect_word-w.ensures ∙ c.requires.gives (leaf_at a.leaves.now l.i) in
+    rw c.leaf_places-f.ensures at c.indirect_word-w.ensures ∙ c.requires.gives (leaf_at a.leaves.now l.i) in
     record {
       within = omega (arith, n);
       rights_kept = simp length-set l.invariant.rights_kept;

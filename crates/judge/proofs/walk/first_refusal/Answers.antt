@@ -1,5 +1,5 @@
 -- A leaf that is refused, and one that is not.
-use Rattle.std.proofs.Common.{◌≡◌, ℕ, ap, sym, ◌∙◌, arith}
+use Rattle.std.proofs.Common.{ℕ, ap, sym, ◌∙◌, arith}
 use Rattle.records.specs.Leaf.{leaf_at}
 use Rattle.records.specs.declared.leaf.Leaf.{Leaf}
 use Rattle.judge.specs.LeafRights.{leaf_rights}

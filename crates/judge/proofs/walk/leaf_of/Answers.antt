@@ -1,5 +1,5 @@
 -- Its 18 bytes are read as the leaf.
-use Rattle.std.proofs.Common.{◌≡◌, sym, ◌∙◌}
+use Rattle.std.proofs.Common.{sym, ◌∙◌}
 use Rattle.records.proofs.Cases.{clash}
 use Rattle.judge.proofs.Steps.{leaf-part}
 use Rattle.judge.proofs.walk.leaf_of.Goals as goal

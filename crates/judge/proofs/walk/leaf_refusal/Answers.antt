@@ -1,5 +1,5 @@
 -- An access that is refused, one that is not, and the end.
-use Rattle.std.proofs.Common.{◌≡◌, refl, sym, ◌∙◌, arith}
+use Rattle.std.proofs.Common.{refl, sym, ◌∙◌, arith}
 use Rattle.judge.specs.LeafRights.{leaf_rights}
 use Rattle.judge.proofs.Refusals.{access-passes, access-refused, accesses-end}
 use Rattle.judge.proofs.walk.leaf_refusal.Goals as goal
