@@ -11,6 +11,7 @@ use lib.ListN.{length, take, drop, length-append, length-take, length-drop, drop
 use lib.Seq.{take_at, drop-drop, length-take-le}
 use borrow.Author.Tests.{leb-true, le-leb, lt-leb}
 use Rattle.records.proofs.Cases.{both_hold}
+use Rattle.records.proofs.Copies.{copied}
 use Rattle.records.specs.Mirror.LeafFields.{leaves_in, delivered}
 use Rattle.records.specs.declared.mapfile.FileRead.TheVariants.{Map, Refused}
 use Rattle.records.specs.declared.mapfile.FileRead.{FileRead}
@@ -145,7 +146,7 @@ module _ (s v : List ℕ) (r : Fields) (e : begins_with 1 52 s ≡ true) (f : le
 module _ (v b : List ℕ) (n : ℕ) (h : n * 18 ≤ length v) where
   pub handed : n * 18 ≤ length b → (x : List ℕ) → x ≡ take (n * 18) v → Gives (delivered v n b) (Map n) (x ++ drop (n * 18) b)
   unfolding delivered
-  handed e x q = rw (q, length-take-le (n * 18) v h, le-leb (n * 18) (length b) e) (refl, refl)
+  handed e x q = rw (copied (n * 18) x v b h q, length-take-le (n * 18) v h, le-leb (n * 18) (length b) e) (refl, refl)
 
   pub kept : length b < n * 18 → Gives (delivered v n b) (Refused 11) b
   unfolding delivered
