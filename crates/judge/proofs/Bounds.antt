@@ -7,7 +7,6 @@ use Rattle.records.proofs.CheckLaws.{Ways, refused-before, refused-at, none-refu
 use Rattle.records.specs.Leaf.{leaf_at, leaf_count}
 use Rattle.records.specs.Setup.{setup_of}
 use Rattle.records.specs.declared.check.Check.{Check}
-use Rattle.records.specs.declared.check.Check.TheVariants as check
 use Rattle.judge.specs.Demands.{start_refusal, leaf_refusal, ListDemands}
 use Rattle.judge.specs.List.{list_of}
 use Rattle.judge.specs.declared.answers.Listed.{Listed}

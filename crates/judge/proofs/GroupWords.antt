@@ -16,7 +16,7 @@ use Rattle.records.specs.declared.leaf.Leaf.{Leaf}
 use Rattle.records.specs.declared.setup.Setup.{Setup}
 use Rattle.rights.proofs.GroupLaws.{Is}
 use Rattle.rights.proofs.GroupedStages.{known2, stage2-groups, slots-groups, direct-groups, indirect-groups, off-groups, leaf-groups}
-use Rattle.rights.specs.Mirror.Groups.{levels_mask, low_pair, flag_pair, state_pair, never_pair, s2ap_word, limits_pair, codes_pair, part_of, overlaid, Grouped, SlotsGrouped, stage2_grouped, Applied}
+use Rattle.rights.specs.Mirror.Groups.{levels_mask, low_pair, flag_pair, state_pair, never_pair, limits_pair, codes_pair, part_of, overlaid, Grouped, SlotsGrouped, stage2_grouped, Applied}
 use Rattle.rights.specs.Mirror.Parts.{stage_words, slot_words, base_words, known_part, stage2_word, leaf_word}
 use Rattle.rights.specs.Mirror.Words.{joined, number_of}
 use Rattle.attributes.proofs.KnownLaws.{known-law, first_off, second-off}

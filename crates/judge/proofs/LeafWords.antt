@@ -30,7 +30,6 @@ use Rattle.rights.specs.Mirror.Words.{Word, joined, six_bits, number_of}
 use Rattle.rights.specs.Order.{leaf_answer, rights_answer}
 use Rattle.rights.specs.declared.answers.Answer.{Answer}
 use Rattle.rights.specs.declared.answers.Answer.TheVariants as answer
-use Rattle.rights.specs.declared.checks.AccessCheck.TheVariants as access
 use Rattle.attributes.specs.Mirror.Known.{passes}
 use Rattle.attributes.specs.Order.{check_of, memory_of, combined_if, attributes_of}
 use Rattle.attributes.specs.declared.Memory.{Memory}

@@ -1,14 +1,11 @@
 -- The refusal of a leaf from an access on, and the answer to a list from a leaf on: one more, and the end. Assumes nothing.
 use mathlib.Core.Path.{◌≡◌, refl}
 use mathlib.Core.Bool.{Bool, true, false}
-use mathlib.Core.List.{[], ◌∷◌}
-use mathlib.Core.Logic.{⊎_elim}
+use mathlib.Core.List.{◌∷◌}
 use Prim.Native.Nat.{ℕ, suc, ◌+◌, ◌-◌, ◌≤◌, ◌<◌}
 use native.Mathlib.Numerals.{add-one}
 use native.Mathlib.Omega.{arith}
 use lib.ListN.{length, drop, drop_of_length-le}
-use types.Run.{OneOf}
-use denote.Enum.Declared.{tag_of}
 use Rattle.records.proofs.Cases.{at}
 use Rattle.records.specs.Values.{if_passes}
 use Rattle.records.specs.declared.check.Check.{Check}
@@ -25,7 +22,6 @@ use Rattle.judge.specs.declared.answers.LeafRights.{LeafRights}
 use Rattle.judge.specs.declared.answers.LeafRights.TheVariants.{Rights, Refused}
 use Rattle.judge.specs.declared.answers.Listed.{Listed}
 use Rattle.judge.specs.declared.answers.Listed.TheVariants as listed
-use Rattle.judge.specs.contracts.answers.Judgement.{the_type}
 
 -- the judged accesses from a on
 next : (two : Bool) (a : ℕ) → a < length (judged_accesses two) → drop a (judged_accesses two) ≡ a ∷ drop (a + 1) (judged_accesses two)
@@ -33,11 +29,11 @@ next true = at 6 (λ (a : ℕ). drop a (judged_accesses true)) (λ (a : ℕ). a 
 next false = at 3 (λ (a : ℕ). drop a (judged_accesses false)) (λ (a : ℕ). a ∷ drop (a + 1) (judged_accesses false)) refl
 
 -- an access that is not refused leaves the refusal to the later ones
-passes : (j : Judgement) (w : ℕ) (r : LeafRights) → OneOf (0 ∷ 1 ∷ []) (tag_of the_type j) → refusal_in (add j w r) ≡ refusal_in r
+passes : (j : Judgement) (w : ℕ) (r : LeafRights) → ((k : ℕ) → j ≡ judgement.Refused k → ⊥) → refusal_in (add j w r) ≡ refusal_in r
 passes (judgement.Allowed m) w (Rights b) h = refl
 passes (judgement.Allowed m) w (Refused n) h = refl
 passes (judgement.Fault g) w r h = refl
-passes (judgement.Refused n) w r h = ⊎_elim (λ e. absurd (omega (arith, e))) (λ e. absurd (omega (arith, e))) h
+passes (judgement.Refused n) w r h = absurd (h n refl)
 
 -- the refusal of the judged accesses from a on
 abbrev pub refusal_from : Setup → Leaf → ℕ → Check
@@ -45,7 +41,7 @@ refusal_from s f a = refusal_in (gather (judged s f) (drop a (judged_accesses s.
 
 module _ (s : Setup) (f : Leaf) (a : ℕ) where
   -- access a is not refused
-  pub access-passes : a < length (judged_accesses s.control.two) → OneOf (0 ∷ 1 ∷ []) (tag_of the_type (judged s f a))
+  pub access-passes : a < length (judged_accesses s.control.two) → ((k : ℕ) → judged s f a ≡ judgement.Refused k → ⊥)
       → refusal_from s f a ≡ refusal_from s f (a + 1)
   access-passes h k = rw (next s.control.two a h) (passes (judged s f a) _ _ k)
 

@@ -1,7 +1,6 @@
 -- What the steps of the judge tell of an access. Assumes nothing.
 use mathlib.Core.Path.{◌≡◌, refl}
-use mathlib.Core.Logic.{⊎_elim}
-use mathlib.Core.List.{List, [], ◌∷◌}
+use mathlib.Core.List.{List}
 use Prim.Native.Nat.{ℕ, ◌+◌, ◌-◌, ◌*◌, ◌≤◌}
 use native.Mathlib.Nat.{add-sub_cancel_left}
 use native.Mathlib.Omega.{arith}
@@ -10,8 +9,6 @@ use lib.ListN.{length, take, drop, length-take, length-drop}
 use borrow.Author.Tests.{eq-eqb, eqb-true}
 use Rattle.records.proofs.Cases.{clash}
 use Rattle.records.proofs.Lengths.{leaf-read}
-use types.Run.{OneOf}
-use denote.Enum.Declared.{tag_of}
 use Rattle.records.specs.Leaf.{leaf_of, leaf_slice, leaf_at, read_leaf}
 use Rattle.records.specs.Setup.{setup_of, read_setup}
 use Rattle.records.specs.Values.{check_if, length_check, check_then}
@@ -25,12 +22,11 @@ use mathlib.Core.Bool.{Bool, true, false, not}
 use Rattle.rights.specs.Answers.{permitted}
 use Rattle.rights.specs.declared.answers.Answer.{Answer}
 use Rattle.rights.specs.declared.answers.Answer.TheVariants.{Permitted, Fault, Refused}
-use Rattle.rights.specs.contracts.answers.Answer.{the_type}
 use Rattle.judge.specs.Judge.{judged, judge_setup, judge_of}
 
 -- an access that is not permitted
-pub not-permitted : (x : Answer) → OneOf (1 ∷ 2 ∷ []) (tag_of the_type x) → permitted x ≡ false
-not-permitted Permitted h = ⊎_elim (λ e. absurd (omega (arith, e))) (λ e. absurd (omega (arith, e))) h
+pub not-permitted : (x : Answer) → (x ≡ Permitted → ⊥) → permitted x ≡ false
+not-permitted Permitted h = absurd (h refl)
 not-permitted (Fault f) h = refl
 not-permitted (Refused n) h = refl
 

@@ -33,6 +33,7 @@ fn combined(a: Attributes) -> Judgement
 }
 
 // From 1 on: checks, stage 1, stage 2, then 8, 8, 9. Accesses 2 and 5 are fetches.
+#[tactic(auto, unfolding(crate::specs::Judge::judged))]
 pub(crate) fn judge_read(s: Setup, f: Leaf, n: u64) -> Judgement
     ensures { result ≡ judged s f n }
 {

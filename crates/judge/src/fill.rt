@@ -9,6 +9,7 @@ use records::setup::Setup;
 use rights::words::{known_word, leaf_word};
 
 // The marks of a word: bits 0 to 7 and 14 are 0 exactly where no access is open and not good and no base codes are refused.
+#[tactic(auto, unfolding(crate::specs::Mirror::Words::marks_in))]
 pub(crate) fn marks_in(w: u64) -> u64
     ensures { result ≡ marks_in w }
 {
@@ -23,6 +24,7 @@ pub(crate) fn sum_up(marks: u64, limits: u8, forbidden: u8) -> u64
 }
 
 // The eight bytes of a word, from index `at` on: its six causes, and two more, so that the compiler makes one store of them.
+#[tactic(auto, unfolding(crate::specs::Mirror::Words::put_at))]
 pub(crate) fn put(causes: &mut [u8], at: usize, w: u64)
     requires { at + 8 ≤ length causes.old }
     ensures { causes.new ≡ put_at causes.old at w }

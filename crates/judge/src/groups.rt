@@ -34,6 +34,7 @@ const SH1: usize = 32;
 const SH2: usize = 36;
 
 // The word of a leaf under Direct.
+#[tactic(auto, unfolding(crate::specs::Mirror::Words::direct_at))]
 fn direct_word(
     low: &[u64; 128],
     flag: &[u64; 16],
@@ -57,6 +58,7 @@ fn direct_word(
 }
 
 // `fill` by groups under Direct.
+#[tactic(auto, unfolding(crate::specs::Mirror::Words::word_at))]
 fn fill_direct(
     s: Setup,
     low: &[u64; 128],
@@ -110,6 +112,7 @@ fn fill_direct(
 }
 
 // The word of a leaf under Indirect.
+#[tactic(auto, unfolding(crate::specs::Mirror::Words::indirect_at))]
 fn indirect_word(
     low: &[u64; 128],
     state: &[u64; 32],
@@ -134,6 +137,7 @@ fn indirect_word(
 }
 
 // `fill` by groups under Indirect.
+#[tactic(auto, unfolding(crate::specs::Mirror::Words::word_at))]
 fn fill_indirect(
     s: Setup,
     low: &[u64; 128],
@@ -187,6 +191,7 @@ fn fill_indirect(
 }
 
 // `fill` by groups with stage 1 off.
+#[tactic(auto, unfolding(crate::specs::Mirror::Words::word_at))]
 fn fill_off(
     s: Setup,
     low2: &[u64; 128],

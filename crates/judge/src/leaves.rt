@@ -54,7 +54,7 @@ pub(crate) fn list_leaves(
     if marks != 0 {
         return first_refusal(s, leaves, n);
     }
-    bytes::copy(&rights[..n], out);
-    bytes::copy(&found[..6 * n], causes);
+    out[..n].copy_from_slice(&rights[..n]);
+    causes[..6 * n].copy_from_slice(&found[..6 * n]);
     Listed::Done(n)
 }

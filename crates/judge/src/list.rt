@@ -9,6 +9,7 @@ use records::check::{Check, check_if, number_of};
 use records::setup::{Control, SetupRead};
 
 // 1, 2, 3, then 11, for a list of `len` bytes, an output of `room` bytes and a buffer of `causes` bytes.
+#[tactic(auto, unfolding(crate::specs::List::list_check))]
 fn check_list(c: Control, len: usize, room: usize, causes: usize) -> Check
     ensures { result ≡ list_check c len room causes }
 {

@@ -31,6 +31,7 @@ pub(crate) fn leaf_of(leaves: &[u8], i: usize) -> Leaf
 }
 
 // The refusal of a leaf: that of its lowest judged access that has one. With one level only accesses 0 to 2 are judged.
+#[tactic(auto, unfolding(crate::specs::LeafRights::leaf_rights))]
 pub(crate) fn leaf_refusal(s: Setup, f: Leaf) -> Check
     ensures { result ≡ refusal_in (leaf_rights s f) }
 {

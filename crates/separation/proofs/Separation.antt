@@ -15,7 +15,6 @@ use Rattle.records.specs.Bits.{bit}
 use Rattle.records.specs.Leaf.{leaf_at, leaf_count}
 use Rattle.records.specs.Setup.{setup_of, read_setup}
 use Rattle.records.specs.declared.check.Check.{Check}
-use Rattle.records.specs.declared.check.Check.TheVariants as check
 use Rattle.records.specs.declared.leaf.Leaf.{Leaf}
 use Rattle.records.specs.declared.setup.Setup.{Setup}
 use Rattle.records.specs.declared.setup.SetupRead.TheVariants as setup
