@@ -82,7 +82,7 @@ fn the_explanation_in_the_readme() {
     let shown = shown.filter_map(|line| line.strip_prefix("    "));
     let (mut maps, mut found) = (0, 0);
     let mut explanation = Vec::new().into_iter();
-    for line in shown.filter(|line| !line.contains("staticlib")) {
+    for line in shown.filter(|line| !line.contains("rt lib")) {
         if let Some((_, map)) = line.split_once(" explain ../examples/") {
             let name = map.strip_suffix(".map").expect("a map is explained");
             let text = explain(&read(name, ".map")).text;
