@@ -94,6 +94,7 @@ fn combine_set(b: u8, m: u8) -> u8
 }
 
 // Stage 1's byte combined with MemAttr.
+#[tactic(auto, unfolding(crate::specs::Combine::combine))]
 fn combined(fwb: bool, b: u8, m: u8) -> u8
     ensures { result ≡ combine fwb b m }
 {
@@ -107,6 +108,7 @@ fn combined(fwb: bool, b: u8, m: u8) -> u8
 }
 
 // The answer's byte. With stage 2 off, stage 1's byte stands.
+#[tactic(auto, unfolding(crate::specs::Combine::result_of))]
 pub(crate) fn result_byte(s: Setup, b: u8, m: u8) -> u8
     ensures { result ≡ result_of s b m }
 {

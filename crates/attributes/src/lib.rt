@@ -13,14 +13,14 @@ mod shareability;
 mod stage2;
 
 // The MAIR byte and SH of an allowed access.
-#[derive(Drop)]
+#[derive(Clone, Copy)]
 pub struct Memory {
     pub byte: u8,
     pub sh: u8,
 }
 
 // The byte and SH that both stages give, or a refusal's number.
-#[derive(Drop)]
+#[derive(Clone, Copy)]
 pub enum Attributes {
     Combined(Memory),
     Refused(u8),

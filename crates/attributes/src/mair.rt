@@ -30,6 +30,7 @@ pub(crate) fn mair_byte(aie: bool, mair: u64, mair2: u64, attrindx: u8, attrindx
 }
 
 // The byte with stage 1 off.
+#[tactic(auto, unfolding(crate::specs::Mair::off_byte))]
 fn off_byte(s: Setup, fetch: bool) -> u8
     ensures { result ≡ off_byte s fetch }
 {
@@ -46,6 +47,7 @@ fn off_byte(s: Setup, fetch: bool) -> u8
 }
 
 // Stage 1's byte, where `fetch` is whether the access executes.
+#[tactic(auto, unfolding(crate::specs::Mair::mair_byte, crate::specs::Mair::stage1_byte))]
 pub(crate) fn stage1_byte(s: Setup, d: Stage1, fetch: bool) -> u8
     ensures { result ≡ stage1_byte s d fetch }
 {

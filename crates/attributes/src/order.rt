@@ -17,6 +17,7 @@ use records::descriptor::{Stage1, Stage2};
 use records::setup::Setup;
 
 // 8 at stage 1: it is on, and its byte is reserved or needs an extension.
+#[tactic(auto, unfolding(crate::specs::Mair::mair_byte, crate::specs::Mair::reserved_byte))]
 fn check_byte(s: Setup, d: Stage1) -> Check
     ensures { result ≡ check_if (reserved_byte s d) 8 }
 {
@@ -25,6 +26,7 @@ fn check_byte(s: Setup, d: Stage1) -> Check
 }
 
 // 8 at stage 2: it is on, and its MemAttr is reserved or needs an extension.
+#[tactic(auto, unfolding(crate::specs::StageTwoType::reserved_mem_attr))]
 fn check_memattr(s: Setup, e: Stage2) -> Check
     ensures { result ≡ check_if (reserved_mem_attr s e) 8 }
 {
@@ -40,6 +42,7 @@ fn check_sh(s: Setup, d: Stage1, e: Stage2) -> Check
 }
 
 // The refusal that the attribute steps of any access of a leaf meet, the same for data and fetches.
+#[tactic(auto, unfolding(crate::specs::Order::check_of))]
 pub fn check_attributes(s: Setup, d: Stage1, e: Stage2) -> Check
     ensures { result ≡ check_of s d e }
 {
@@ -55,6 +58,7 @@ pub fn check_attributes(s: Setup, d: Stage1, e: Stage2) -> Check
 }
 
 // The byte and SH of an access that none of the steps refuses.
+#[tactic(auto, unfolding(crate::specs::Combine::result_byte, crate::specs::Shareability::result_sh, crate::specs::Order::memory_of))]
 fn memory_of(s: Setup, d: Stage1, e: Stage2, fetch: bool) -> Memory
     ensures { result ≡ memory_of s d e fetch }
 {
@@ -67,6 +71,7 @@ fn memory_of(s: Setup, d: Stage1, e: Stage2, fetch: bool) -> Memory
 }
 
 // The attribute steps of one access, where `fetch` is whether it executes.
+#[tactic(auto, unfolding(crate::specs::Order::attributes_of))]
 pub fn access_attributes(s: Setup, d: Stage1, e: Stage2, fetch: bool) -> Attributes
     ensures { result ≡ attributes_of s d e fetch }
 {

@@ -8,6 +8,7 @@ use records::descriptor::{Stage1, Stage2};
 use records::setup::Setup;
 
 // SH is 01 in a stage that is on.
+#[tactic(auto, unfolding(crate::specs::Shareability::reserved_sh))]
 pub(crate) fn reserved_sh(s: Setup, d: Stage1, e: Stage2) -> bool
     ensures { result ≡ reserved_sh s d e }
 {
@@ -35,6 +36,7 @@ fn stronger_sh(x: u8, y: u8) -> u8
 }
 
 // Stage 1's SH, where `b` is its byte.
+#[tactic(auto, unfolding(crate::specs::Shareability::stage1_sh))]
 fn stage1_sh(s: Setup, d: Stage1, b: u8) -> u8
     ensures { result ≡ stage1_sh s d b }
 {
@@ -51,6 +53,7 @@ fn stage1_sh(s: Setup, d: Stage1, b: u8) -> u8
 }
 
 // Stage 2's SH.
+#[tactic(auto, unfolding(crate::specs::Shareability::stage2_sh))]
 fn stage2_sh(e: Stage2) -> u8
     ensures { result ≡ stage2_sh e }
 {
@@ -60,7 +63,8 @@ fn stage2_sh(e: Stage2) -> u8
     e.sh % 4
 }
 
-// The answer's SH, where stage 1's byte is `b` and the answer's is `result`.
+// The answer's SH, where stage 1's byte is `b` and the answer's is `res`.
+#[tactic(auto, unfolding(crate::specs::Shareability::combined_sh))]
 pub(crate) fn combined_sh(s: Setup, d: Stage1, e: Stage2, b: u8, res: u8) -> u8
     ensures { result ≡ combined_sh s d e b res }
 {

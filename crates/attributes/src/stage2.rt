@@ -5,6 +5,7 @@ ghost use Rattle.attributes.specs.StageTwoType.{mem_attr_of, reserved_code, unca
 use records::descriptor::Stage2;
 
 // MemAttr, which has four bits.
+#[tactic(auto, unfolding(crate::specs::StageTwoType::mem_attr_of))]
 pub(crate) fn mem_attr(e: Stage2) -> u8
     ensures { result ≡ mem_attr_of e }
 {

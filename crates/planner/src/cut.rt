@@ -27,6 +27,7 @@ fn range_plan(forbidden: u8, l: Level, range: RangeMask) -> LeafPlan
 
 // 5, then the 6 or 7 that an access of the level meets with 77777777 in place of that level's POR; `w` is the control word, `on` whether that level's
 // overlay is, `base` the setup's table for stage 1.
+#[tactic(auto, unfolding(crate::specs::Mirror::Masks::plan_by))]
 pub(crate) fn plan_leaf(w: u32, on: bool, base: &[u16; 16], l: Level, leaf: &[u8]) -> LeafPlan
     ensures { result ≡ plan_by w on base.now l leaf.now }
 {

@@ -59,6 +59,7 @@ fn plan_leaves(w: u32, on: bool, base: &[u16; 16], l: Level, leaves: &[u8]) -> P
 }
 
 // The register of a level (0 privileged, 1 unprivileged) for a setup of 52 bytes and leaves of 18 bytes each.
+#[tactic(auto, unfolding(crate::specs::Plan::plan_of, records::specs::Setup::setup_from))]
 pub fn plan_level(setup: &[u8], level: u64, leaves: &[u8]) -> Plan
     ensures value { result ≡ plan_of setup.now level leaves.now }
     ensures planner_demands { PlannerDemands setup.now level leaves.now result }

@@ -25,6 +25,7 @@ pub(crate) fn first_of(first: usize, n: usize, i: usize, uncured: bool) -> usize
 }
 
 // The register with mask k in slot k.
+#[tactic(auto, unfolding(crate::specs::Register::pack_from))]
 pub(crate) fn pack(masks: [u8; 8]) -> u64
     requires { (s : ℕ) → get_or masks s 0 < 8 }
     ensures { result ≡ pack_from masks 8 0 }

@@ -18,6 +18,7 @@ fn is_on(c: Control, l: Level) -> bool
 }
 
 // 1, 2, 3, 4, 12, 11, where `len` is the length of the list in bytes.
+#[tactic(auto, unfolding(crate::specs::Plan::start_of))]
 pub(crate) fn begin(c: Control, level: u64, len: usize) -> Start
     ensures { result ≡ start_of c level len }
 {

@@ -8,10 +8,9 @@ use native.Mathlib.Nat.{zero-add, add-zero, add_assoc, not-suc-le-zero}
 use native.Mathlib.Omega.{arith}
 use lib.Dec.{leb}
 use lib.ListN.{length, take, drop, length-append, length-take, length-drop, drop_of_length-le}
-use lib.Seq.{take_at, take-length, drop-drop, length-take-le}
+use lib.Seq.{take_at, drop-drop, length-take-le}
 use borrow.Author.Tests.{leb-true, le-leb, lt-leb}
 use Rattle.records.proofs.Cases.{both_hold}
-use Rattle.records.proofs.Copies.{copied}
 use Rattle.records.specs.Mirror.LeafFields.{leaves_in, delivered}
 use Rattle.records.specs.declared.mapfile.FileRead.TheVariants.{Map, Refused}
 use Rattle.records.specs.declared.mapfile.FileRead.{FileRead}
@@ -80,25 +79,22 @@ module _ (s : List ℕ) (k : ℕ) where
       rw (next m h, e, prepend-twice, q, p, drop-drop 21 k s)
 
 -- x in place from index k on, behind the first k elements of v
-pub placed : (k m : ℕ) (v x y p : List ℕ) → k ≤ length v → length x ≡ m
-    → take (k + m) (take k v ++ ((take (length x) x ++ y) ++ p)) ≡ take k v ++ x
-placed k m v x y p h e =
-    rw (take-length, append_assoc, ← append_assoc)
-    (take_at (take k v ++ x) (y ++ p) (k + m) (rw (length-append, length-take-le, e)))
+pub placed : (k m : ℕ) (v x p : List ℕ) → k ≤ length v → length x ≡ m → take (k + m) (take k v ++ (x ++ p)) ≡ take k v ++ x
+placed k m v x p h e = rw (← append_assoc) (take_at (take k v ++ x) p (k + m) (rw (length-append, length-take-le, e)))
 
 -- one turn of the loop: the value of the field that begins at k is put behind n values
-pub turn : (file v y p ys : List ℕ) (n k : ℕ) → n < 2048 → k + 21 ≤ length file → n * 18 ≤ length v
+pub turn : (file v p ys : List ℕ) (n k : ℕ) → n < 2048 → k + 21 ≤ length file → n * 18 ≤ length v
     → begins_with 2 18 (drop k file) ≡ true
-    → ys ≡ take (length (take (k + 21 - (k + 3)) (drop (k + 3) file))) (take (k + 21 - (k + 3)) (drop (k + 3) file)) ++ y
+    → ys ≡ take (k + 21 - (k + 3)) (drop (k + 3) file)
     → prepend n (take (n * 18) v) (leaves_of (2048 - n) (drop k file))
     ≡ prepend (n + 1) (take ((n + 1) * 18) (take (n * 18) v ++ (ys ++ p))) (leaves_of (2048 - (n + 1)) (drop (k + 21) file))
-turn file v y p ys n k hn hk hv e q =
+turn file v p ys n k hn hk hv e q =
     let w : k + 21 - (k + 3) ≡ 18 = omega arith in
     let g : (n + 1) * 18 ≡ n * 18 + 18 = omega arith in
     let f : 2048 - n - 1 ≡ 2048 - (n + 1) = omega arith in
     let l : length (take 18 (drop (k + 3) file)) ≡ 18 = simp (length-take, length-drop) (omega arith) in
     let b : take (n * 18 + 18) (take (n * 18) v ++ (ys ++ p)) ≡ take (n * 18) v ++ value 18 (drop k file) =
-    rw (q, w, drop-drop 3 k file) (placed (n * 18) 18 v _ y p hv l) in
+    rw (q, w, drop-drop 3 k file) (placed (n * 18) 18 v _ p hv l) in
     rw (g, ← f) (one_more file k (2048 - n) n _ _ (omega arith) (omega arith) e b)
 
 -- the leaf fields are at most m, and their values have 18 bytes each
@@ -147,10 +143,9 @@ module _ (s v : List ℕ) (r : Fields) (e : begins_with 1 52 s ≡ true) (f : le
 
 -- what is handed over where the lent buffer is long enough for the n leaves that v begins with, and where it is not
 module _ (v b : List ℕ) (n : ℕ) (h : n * 18 ≤ length v) where
-  pub handed : n * 18 ≤ length b → (p : List ℕ) → p ≡ take (length (take (n * 18) v)) (take (n * 18) v) ++ drop (length (take (n * 18) v)) b
-      → Gives (delivered v n b) (Map n) p
+  pub handed : n * 18 ≤ length b → (x : List ℕ) → x ≡ take (n * 18) v → Gives (delivered v n b) (Map n) (x ++ drop (n * 18) b)
   unfolding delivered
-  handed e p q = rw (q, copied, length-take-le (n * 18) v h, le-leb (n * 18) (length b) e) (refl, refl)
+  handed e x q = rw (q, length-take-le (n * 18) v h, le-leb (n * 18) (length b) e) (refl, refl)
 
   pub kept : length b < n * 18 → Gives (delivered v n b) (Refused 11) b
   unfolding delivered

@@ -3,13 +3,13 @@
 ghost use Rattle.std.specs.Prelude.{◌≡◌, ◌<◌};
 ghost use Rattle.records.specs.Access.{access_at, read_access, level_in, has_right, has, bits_in};
 
-#[derive(Drop)]
+#[derive(Clone, Copy)]
 pub enum Level {
     Privileged,
     Unprivileged,
 }
 
-#[derive(Drop)]
+#[derive(Clone, Copy)]
 pub enum Right {
     Read,
     Write,
@@ -17,21 +17,21 @@ pub enum Right {
 }
 
 // A right of a level.
-#[derive(Drop)]
+#[derive(Clone, Copy)]
 pub struct Access {
     pub level: Level,
     pub right: Right,
 }
 
 // An access, or a number that no access has.
-#[derive(Drop)]
+#[derive(Clone, Copy)]
 pub enum AccessRead {
     Read(Access),
     Unknown,
 }
 
 // The six rights: read, write and execute, privileged and unprivileged.
-#[derive(Drop)]
+#[derive(Clone, Copy)]
 pub struct Rights {
     pub pr: bool,
     pub pw: bool,
@@ -42,7 +42,7 @@ pub struct Rights {
 }
 
 // Rights of one level.
-#[derive(Drop)]
+#[derive(Clone, Copy)]
 pub struct LevelRights {
     pub read: bool,
     pub write: bool,
@@ -76,6 +76,7 @@ fn right_of(n: u64) -> Right
 }
 
 // The access of a number.
+#[tactic(auto, unfolding(crate::specs::Access::read_access))]
 pub fn read_access(n: u64) -> AccessRead
     ensures { result ≡ read_access n }
 {

@@ -10,7 +10,7 @@ pub mod places;
 use crate::descriptor::index::{PIIndex, POIndex};
 
 // Table limits, gathered over the walk.
-#[derive(Drop)]
+#[derive(Clone, Copy)]
 pub struct Limits {
     pub aptable0: bool,
     pub aptable1: bool,
@@ -20,7 +20,7 @@ pub struct Limits {
 }
 
 // The fields of a stage 1 descriptor. `bit7` and `bit51` are the bits that tell dirty state under Indirect and Direct.
-#[derive(Drop)]
+#[derive(Clone, Copy)]
 pub struct Stage1 {
     pub valid: bool,
     pub attrindx: u8,
@@ -39,7 +39,7 @@ pub struct Stage1 {
 }
 
 // The fields of a stage 2 descriptor. `read` and `write` are bits 0 and 1 of S2AP; `bit51` tells dirty state.
-#[derive(Drop)]
+#[derive(Clone, Copy)]
 pub struct Stage2 {
     pub valid: bool,
     pub memattr: u8,
@@ -52,6 +52,7 @@ pub struct Stage2 {
 }
 
 // The limits of a limits byte.
+#[tactic(auto, unfolding(crate::specs::Descriptor::limits_of))]
 pub fn read_limits(l: u8) -> Limits
     ensures { result ≡ limits_of l }
 {
@@ -64,6 +65,7 @@ pub fn read_limits(l: u8) -> Limits
 }
 
 // The fields of a stage 1 descriptor.
+#[tactic(auto, unfolding(crate::specs::Descriptor::stage1_of))]
 pub fn read_stage1(d: u64) -> Stage1
     ensures { result ≡ stage1_of d }
 {
@@ -85,6 +87,7 @@ pub fn read_stage1(d: u64) -> Stage1
 }
 
 // The fields of a stage 2 descriptor.
+#[tactic(auto, unfolding(crate::specs::Descriptor::stage2_of))]
 pub fn read_stage2(d: u64) -> Stage2
     ensures { result ≡ stage2_of d }
 {

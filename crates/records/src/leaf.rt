@@ -4,7 +4,7 @@ ghost use Rattle.records.specs.Leaf.{read_leaf};
 
 use crate::number::word;
 
-#[derive(Drop)]
+#[derive(Clone, Copy)]
 pub struct Leaf {
     pub stage1: u64,
     pub stage2: u64,
@@ -13,13 +13,14 @@ pub struct Leaf {
 }
 
 // A leaf, or a refusal's number.
-#[derive(Drop)]
+#[derive(Clone, Copy)]
 pub enum LeafRead {
     Read(Leaf),
     Refused(u8),
 }
 
 // The leaf of 18 bytes, or 13.
+#[tactic(auto, unfolding(crate::specs::Leaf::read_leaf, crate::specs::Leaf::leaf_of))]
 pub fn read_leaf(s: &[u8]) -> LeafRead
     ensures { result ≡ read_leaf s.now }
 {

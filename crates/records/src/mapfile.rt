@@ -7,20 +7,21 @@ ghost use Rattle.records.specs.Mirror.LeafFields.{leaves_in, delivered};
 use crate::number::short;
 
 // The number of leaves of a map file, or a refusal's number.
-#[derive(Drop)]
+#[derive(Clone, Copy)]
 pub enum FileRead {
     Map(usize),
     Refused(u8),
 }
 
 // What was found from the first leaf field on: whole leaf fields, or something else.
-#[derive(Drop)]
+#[derive(Clone, Copy)]
 enum Fields {
     Whole(usize),
     IllFormed,
 }
 
 // Whether a whole field with this tag and length begins at index `at`.
+#[tactic(auto, unfolding(crate::specs::MapFile::begins_with))]
 fn begins_with(s: &[u8], at: usize, tag: u8, len: usize) -> bool
     requires { (at ≤ length s.now) × (len ≤ 65535) }
     ensures { result ≡ begins_with tag len (drop at s.now) }
@@ -87,6 +88,7 @@ pub fn read_file(file: &[u8], leaves: &mut [u8]) -> FileRead
 }
 
 // The setup's bytes, in a file that `read_file` reads as a map: bytes 3 to 54 of any file, and none of one that is shorter.
+#[tactic(auto, unfolding(crate::specs::MapFile::setup_in))]
 pub fn setup_bytes(file: &[u8]) -> &[u8]
     ensures { result.now ≡ setup_in file.now }
 {

@@ -46,6 +46,7 @@ pub(crate) fn half(b: &[u8], at: usize) -> u64
 }
 
 // The 64-bit number at index `at`.
+#[tactic(auto, unfolding(crate::specs::Bytes::le64))]
 pub(crate) fn word(b: &[u8], at: usize) -> u64
     requires { at + 8 ≤ length b.now }
     ensures { result ≡ le64 b.now at }

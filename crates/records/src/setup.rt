@@ -7,21 +7,21 @@ use crate::access::Level;
 use crate::number::{half, word};
 
 // A bit for each privilege level.
-#[derive(Drop)]
+#[derive(Clone, Copy)]
 pub struct LevelBits {
     pub privileged: bool,
     pub unprivileged: bool,
 }
 
 // A register for each privilege level.
-#[derive(Drop)]
+#[derive(Clone, Copy)]
 pub struct LevelRegisters {
     pub privileged: u64,
     pub unprivileged: u64,
 }
 
 // A setup as it stands: the control word and six registers.
-#[derive(Drop)]
+#[derive(Clone, Copy)]
 pub struct Words {
     pub control: u32,
     pub mair: u64,
@@ -31,14 +31,14 @@ pub struct Words {
 }
 
 // The words of a setup, or a refusal's number.
-#[derive(Drop)]
+#[derive(Clone, Copy)]
 pub enum WordsRead {
     Read(Words),
     Refused(u8),
 }
 
 // The control bits, 0 to 12 in order, and whether one above 12 is set.
-#[derive(Drop)]
+#[derive(Clone, Copy)]
 pub struct Control {
     // Two privilege levels.
     pub two: bool,
@@ -59,7 +59,7 @@ pub struct Control {
 }
 
 // A setup: the control bits by name, and the registers.
-#[derive(Drop)]
+#[derive(Clone, Copy)]
 pub struct Setup {
     pub control: Control,
     pub mair: u64,
@@ -69,7 +69,7 @@ pub struct Setup {
 }
 
 // A setup, or a refusal's number.
-#[derive(Drop)]
+#[derive(Clone, Copy)]
 pub enum SetupRead {
     Read(Setup),
     Refused(u8),
@@ -102,6 +102,7 @@ pub fn byte_in(mair: u64, attrindx: u8) -> u8
     ((mair >> (8 * (attrindx % 8))) % 256) as u8
 }
 
+#[tactic(auto, unfolding(crate::specs::Setup::words_of))]
 fn words_of(s: &[u8]) -> Words
     requires { length s.now ≡ 52 }
     ensures { result ≡ words_of s.now }
@@ -122,6 +123,7 @@ fn words_of(s: &[u8]) -> Words
 }
 
 // The words of a setup of 52 bytes, or 13.
+#[tactic(auto, unfolding(crate::specs::Setup::read_words))]
 pub fn read_words(s: &[u8]) -> WordsRead
     ensures { result ≡ read_words s.now }
 {
@@ -132,6 +134,7 @@ pub fn read_words(s: &[u8]) -> WordsRead
 }
 
 // The control bits of a control word.
+#[tactic(auto, unfolding(crate::specs::Setup::control_of))]
 pub fn read_control(w: u32) -> Control
     ensures { result ≡ control_of w }
 {
@@ -156,6 +159,7 @@ pub fn read_control(w: u32) -> Control
 }
 
 // The setup of these words.
+#[tactic(auto, unfolding(crate::specs::Setup::setup_from))]
 fn setup_from(w: Words) -> Setup
     ensures { result ≡ setup_from w }
 {

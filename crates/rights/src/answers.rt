@@ -4,7 +4,7 @@ ghost use Rattle.rights.specs.Answers.{fault_unless, refuse_if, answer_of, descr
 
 use records::check::Check;
 
-#[derive(Drop)]
+#[derive(Clone, Copy)]
 pub enum Kind {
     Translation,
     AccessFlag,
@@ -12,7 +12,7 @@ pub enum Kind {
     Overlay,
 }
 
-#[derive(Drop)]
+#[derive(Clone, Copy)]
 pub struct Fault {
     pub stage: u8,
     pub kind: Kind,
@@ -21,7 +21,7 @@ pub struct Fault {
 }
 
 // Permitted so far, a fault, or a refusal's number.
-#[derive(Drop)]
+#[derive(Clone, Copy)]
 pub enum Answer {
     Permitted,
     Fault(Fault),

@@ -9,20 +9,21 @@ use records::leaf::Leaf;
 use records::setup::Control;
 
 // An access that may be judged, or a refusal's number.
-#[derive(Drop)]
+#[derive(Clone, Copy)]
 pub enum AccessCheck {
     Known(Access),
     Refused(u8),
 }
 
 // A planner's level, or a refusal's number.
-#[derive(Drop)]
+#[derive(Clone, Copy)]
 pub enum LevelCheck {
     Known(Level),
     Refused(u8),
 }
 
 // 1, 2, 3.
+#[tactic(auto, unfolding(crate::specs::Checks::setup_check))]
 pub fn check_setup(c: Control) -> Check
     ensures { result ≡ setup_check c }
 {
@@ -40,6 +41,7 @@ pub fn check_setup(c: Control) -> Check
 }
 
 // 4, for an access number.
+#[tactic(auto, unfolding(crate::specs::Checks::access_check))]
 pub(crate) fn check_access(two: bool, n: u64) -> AccessCheck
     ensures { result ≡ access_check two n }
 {
@@ -56,6 +58,7 @@ pub(crate) fn check_access(two: bool, n: u64) -> AccessCheck
 }
 
 // 4, for a planner's level: 0 privileged, 1 unprivileged.
+#[tactic(auto, unfolding(crate::specs::Checks::level_check))]
 pub fn check_level(n: u64) -> LevelCheck
     ensures { result ≡ level_check n }
 {
@@ -67,6 +70,7 @@ pub fn check_level(n: u64) -> LevelCheck
 }
 
 // 5.
+#[tactic(auto, unfolding(crate::specs::Checks::leaf_check))]
 pub fn check_leaf(f: Leaf) -> Check
     ensures { result ≡ leaf_check f }
 {

@@ -151,6 +151,7 @@ fn one_level(c: Control, d: Stage1, t: Limits, a: Access) -> u8
 }
 
 // The first remover of an access under Direct.
+#[tactic(auto, unfolding(crate::specs::Direct::direct_cause, crate::specs::Direct::direct_steps))]
 pub(crate) fn direct_cause(c: Control, d: Stage1, t: Limits, a: Access) -> u8
     ensures { result ≡ direct_cause c d t a }
 {

@@ -8,7 +8,7 @@ use records::descriptor::index::PIIndex;
 use records::setup::{LevelBits, LevelRegisters};
 
 // What a base code means.
-#[derive(Drop)]
+#[derive(Clone, Copy)]
 pub(crate) struct Code {
     pub read: bool,
     pub write: bool,
@@ -21,7 +21,7 @@ pub(crate) struct Code {
 }
 
 // The codes of both levels.
-#[derive(Drop)]
+#[derive(Clone, Copy)]
 pub(crate) struct Codes {
     pub privileged: Code,
     pub unprivileged: Code,
@@ -84,6 +84,7 @@ fn base_code(n: u8) -> Code
 }
 
 // The codes at a PIIndex of both PIRs.
+#[tactic(auto, unfolding(crate::specs::Indirect::codes_at))]
 pub(crate) fn codes_at(pir: LevelRegisters, i: PIIndex) -> Codes
     ensures { result ≡ codes_at pir i }
 {

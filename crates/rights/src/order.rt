@@ -64,6 +64,7 @@ fn access_refusal(a: AccessCheck) -> Answer
 }
 
 // 1 to 5, then both stages: `Permitted` exactly where the order reaches the attribute steps.
+#[tactic(auto, unfolding(crate::specs::Order::rights_answer))]
 pub fn judge_rights(s: Setup, f: Leaf, n: u64) -> Answer
     ensures { result ≡ rights_answer s f n }
 {

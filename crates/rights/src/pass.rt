@@ -9,7 +9,7 @@ pub(crate) mod stage2;
 pub mod table;
 
 // Rights as bits, or a refusal's number.
-#[derive(Drop)]
+#[derive(Clone, Copy)]
 pub(crate) enum Mask {
     Granted(u8),
     Refused(u8),

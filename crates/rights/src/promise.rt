@@ -12,7 +12,7 @@ use records::access::Level;
 use records::descriptor::index::POIndex;
 
 // The place of the leaf's slot, the rights of the level as bits 0 to 2 with every slot bit on and with every one off; or a refusal's number.
-#[derive(Drop)]
+#[derive(Clone, Copy)]
 pub enum RangeMask {
     Range { place: usize, full: u8, bare: u8 },
     Refused(u8),
@@ -36,6 +36,7 @@ fn range_with(place: usize, full: Mask, bare: Mask) -> RangeMask
 
 // The refusal that an access of the level meets with 77777777 in place of that level's POR, or the range of its rights: `w` is the control word,
 // `on` whether that level's overlay is, `base` the setup's table for stage 1, `d` and `e` are the descriptors, `t` is the limits.
+#[tactic(auto, unfolding(crate::specs::Mirror::Table::range_by))]
 pub fn level_range(w: u32, on: bool, base: &[u16; 16], d: u64, e: u64, t: u8, l: Level) -> RangeMask
     ensures { result ≡ range_by w on base.now d e t l }
 {

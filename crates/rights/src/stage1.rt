@@ -37,6 +37,7 @@ fn unjudged_base(s: Setup, d: Stage1) -> bool
 }
 
 // The first remover of a base right, 0 if it is there: the base code under Indirect, else by the steps of Direct.
+#[tactic(auto, unfolding(crate::specs::Stage1::base_cause, crate::specs::Direct::direct_cause))]
 fn base_cause(s: Setup, d: Stage1, t: Limits, a: Access) -> u8
     ensures { result ≡ base_cause s d t a }
 {
@@ -66,6 +67,7 @@ fn overlays_apply(s: Setup, d: Stage1) -> LevelBits
 }
 
 // From the base codes on.
+#[tactic(auto, unfolding(crate::specs::Stage1::base_answer))]
 fn base_answer(s: Setup, d: Stage1, t: Limits, a: Access) -> Answer
     ensures { result ≡ base_answer s d t a }
 {
@@ -86,6 +88,7 @@ fn base_answer(s: Setup, d: Stage1, t: Limits, a: Access) -> Answer
 }
 
 // All steps of stage 1.
+#[tactic(auto, unfolding(crate::specs::Stage1::stage1_answer))]
 pub(crate) fn stage1_answer(s: Setup, d: Stage1, t: Limits, a: Access) -> Answer
     ensures { result ≡ stage1_answer s d t a }
 {

@@ -39,6 +39,7 @@ fn xn(r: Rights, e: Stage2) -> Rights
 }
 
 // The first remover of an access, 0 if none is: S2AP, XN.
+#[tactic(auto, unfolding(crate::specs::Stage2::stage2_cause))]
 fn stage2_cause(e: Stage2, a: Access) -> u8
     ensures { result ≡ stage2_cause e a }
 {
@@ -48,6 +49,7 @@ fn stage2_cause(e: Stage2, a: Access) -> u8
 }
 
 // All steps of stage 2.
+#[tactic(auto, unfolding(crate::specs::Stage2::stage2_answer))]
 pub(crate) fn stage2_answer(e: Stage2, a: Access) -> Answer
     ensures { result ≡ stage2_answer e a }
 {

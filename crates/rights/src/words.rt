@@ -25,6 +25,7 @@ pub(crate) const MASK_ONE_LEVEL: u64 = 0x47C7_0000_00FF_FFFF;
 pub(crate) const MASK_UNKNOWN: u64 = 0x40FF_FFFF_FFFF_FFFF;
 
 // The two words of a field at index `i`, before the word of what follows.
+#[tactic(auto, unfolding(crate::specs::Mirror::Parts::join_at))]
 fn join(t: &[u64; 64], i: usize, w: u64) -> u64
     requires { i < 63 }
     ensures { result ≡ join_at t.now i w }
@@ -33,6 +34,7 @@ fn join(t: &[u64; 64], i: usize, w: u64) -> u64
 }
 
 // The same of the stages' table.
+#[tactic(auto, unfolding(crate::specs::Mirror::Parts::join_at))]
 pub(crate) fn join_stage(t: &[u64; 96], i: usize, w: u64) -> u64
     requires { i < 95 }
     ensures { result ≡ join_at t.now i w }
@@ -113,6 +115,7 @@ pub(crate) fn last_index(wxn: bool, pan: bool, m: u64) -> usize
 }
 
 // Direct: AP, PXN and UXN, then the limits, then the steps that read rights.
+#[tactic(auto, unfolding(crate::specs::Mirror::Parts::direct_number))]
 fn direct_word(base: &[u64; 64], t: &[u64; 96], c: Control, d: u64, limits: u8, w: u64) -> u64
     ensures { result ≡ direct_number base.now t.now c d limits w }
 {
@@ -133,6 +136,7 @@ pub(crate) fn code_if(two: bool, u: u8) -> usize
 }
 
 // Indirect: the base codes, then the overlay, which applies to codes 0 to 7.
+#[tactic(auto, unfolding(crate::specs::Mirror::Parts::indirect_number))]
 fn indirect_word(base: &[u64; 64], slots: &[u64; 64], s: Setup, d: u64, w: u64) -> u64
     ensures { result ≡ indirect_number base.now slots.now s d w }
 {
@@ -145,6 +149,7 @@ fn indirect_word(base: &[u64; 64], slots: &[u64; 64], s: Setup, d: u64, w: u64) 
 }
 
 // Stage 1: valid, AF and dirty state, then base rights and overlay.
+#[tactic(auto, unfolding(crate::specs::Mirror::Parts::stage1_number))]
 fn stage1_word(base: &[u64; 64], slots: &[u64; 64], t: &[u64; 96], s: Setup, f: Leaf, w: u64) -> u64
     ensures { result ≡ stage1_number base.now slots.now t.now s f w }
 {
@@ -165,6 +170,7 @@ fn stage1_word(base: &[u64; 64], slots: &[u64; 64], t: &[u64; 96], s: Setup, f: 
 }
 
 // Stage 1 off: no base code is read.
+#[tactic(auto, unfolding(crate::specs::Mirror::Parts::off_number))]
 pub(crate) fn off_word(w: u64) -> u64
     ensures { result ≡ off_number w }
 {
@@ -172,6 +178,7 @@ pub(crate) fn off_word(w: u64) -> u64
 }
 
 // One level: the unprivileged accesses are not judged.
+#[tactic(auto, unfolding(crate::specs::Mirror::Parts::one_number))]
 fn one_word(w: u64) -> u64
     ensures { result ≡ one_number w }
 {
@@ -188,6 +195,7 @@ pub(crate) fn levels_word(two: bool, w: u64) -> u64
 }
 
 // The word of a leaf, where `base`, `slots` and `t` are the words of base rights, of slots and of the stages.
+#[tactic(auto, unfolding(crate::specs::Mirror::Parts::leaf_number))]
 pub fn leaf_word(base: &[u64; 64], slots: &[u64; 64], t: &[u64; 96], s: Setup, f: Leaf) -> u64
     ensures { result ≡ leaf_number base.now slots.now t.now s f }
 {
@@ -199,6 +207,7 @@ pub fn leaf_word(base: &[u64; 64], slots: &[u64; 64], t: &[u64; 96], s: Setup, f
 }
 
 // Memory that is not known: no access is good.
+#[tactic(auto, unfolding(crate::specs::Mirror::Parts::unknown_number))]
 fn unknown_word(w: u64) -> u64
     ensures { result ≡ unknown_number w }
 {

@@ -7,7 +7,7 @@ use crate::lines::put::{put_last, put_leaf, put_refusal, put_register, put_word}
 mod put;
 
 // The leaf count, a leaf's line, the word before a level's register, a register that ends its line, a refusal that ends its line.
-#[derive(Drop)]
+#[derive(Clone, Copy)]
 pub(crate) enum Item {
     Leaves(usize),
     Leaf {

@@ -3,10 +3,10 @@
 ghost use Rattle.std.specs.Prelude.{◌≡◌};
 ghost use Rattle.records.specs.Descriptor.{pi_index, po_index, code_at, entry_of, place_of, slot_at};
 
-#[derive(Drop)]
+#[derive(Clone, Copy)]
 pub struct PIIndex(u8);
 
-#[derive(Drop)]
+#[derive(Clone, Copy)]
 pub struct POIndex(u8);
 
 impl PIIndex {

@@ -10,15 +10,15 @@ use crate::number::short;
 
 // Bits 54 to 51, and bit 6 above them: the PIIndex is among them. Like an index, a place is made by decoding alone and gives no number away. Its methods take
 // tables of 32 entries.
-#[derive(Drop)]
+#[derive(Clone, Copy)]
 pub struct CodesPlace(usize);
 
 // Bits 62 to 59: the POIndex, and AttrIndx[3] below it. Its method takes a table of four parts with 16 entries each.
-#[derive(Drop)]
+#[derive(Clone, Copy)]
 pub struct SlotsPlace(usize);
 
 // Of one descriptor: `low1` is stage 1's bits 4:0 and bit 59 above them, `low2` stage 2's bits 5:0, `ap` is 7:6 (AP or S2AP), `flags` 10:8, `state` 10:7, `never` 54:51.
-#[derive(Drop)]
+#[derive(Clone, Copy)]
 pub struct Places {
     pub low1: usize,
     pub low2: usize,
@@ -30,7 +30,7 @@ pub struct Places {
     pub slots: SlotsPlace,
 }
 
-#[derive(Drop)]
+#[derive(Clone, Copy)]
 pub struct LeafPlaces {
     pub stage1: Places,
     pub stage2: Places,

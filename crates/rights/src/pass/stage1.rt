@@ -29,6 +29,7 @@ fn direct_word(base: &[u16; 16], w: u32, d: u64, t: u8) -> u16
 
 // Stage 1 up to the overlay by a setup's table: `w` is the control word, `d` is the descriptor and `t` the limits. 1792 is refusal 7, for dirty
 // state.
+#[tactic(auto, unfolding(crate::specs::Mirror::Table::stage1_word))]
 pub(crate) fn stage1_word(base: &[u16; 16], w: u32, d: u64, t: u8) -> u16
     ensures { result ≡ stage1_word base.now w d t }
 {

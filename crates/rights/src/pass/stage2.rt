@@ -11,6 +11,7 @@ use crate::pass::Mask;
 const STAGE2: [u8; 16] = [36, 45, 54, 63, 32, 41, 50, 59, 0, 9, 18, 27, 4, 13, 22, 31];
 
 // Stage 2: `w` is the control word, `e` is the descriptor.
+#[tactic(auto, unfolding(records::specs::Descriptor::stage2_of, crate::specs::Mirror::Pass::stage2_pass))]
 pub(crate) fn stage2_mask(w: u32, e: u64) -> Mask
     ensures { result ≡ stage2_mask (stage2_pass (bit w 2) (stage2_of e)) }
 {

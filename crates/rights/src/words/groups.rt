@@ -15,7 +15,7 @@ use records::descriptor::places::{Places, SlotsPlace, codes_descriptor, slots_de
 use records::setup::{Control, Setup};
 
 // What some fields keep, and what they take away.
-#[derive(Drop)]
+#[derive(Clone, Copy)]
 pub(crate) struct Pair {
     pub keeps: u64,
     pub takes: u64,
@@ -33,6 +33,7 @@ fn pair_at(t: &[u64], i: usize) -> Pair
 }
 
 // Fields before others.
+#[tactic(auto, unfolding(crate::specs::Mirror::Groups::before))]
 fn before(p: Pair, q: Pair) -> Pair
     ensures { result ≡ before p q }
 {
@@ -42,6 +43,7 @@ fn before(p: Pair, q: Pair) -> Pair
     }
 }
 
+#[tactic(auto, unfolding(crate::specs::Mirror::Groups::masked))]
 fn masked(m: u64, p: Pair) -> Pair
     ensures { result ≡ masked m p }
 {
@@ -332,6 +334,7 @@ pub fn applies_table(s: Setup) -> [u8; 32]
 }
 
 // Stage 2, where it is on, of a descriptor at places `e`.
+#[tactic(auto, unfolding(crate::specs::Mirror::Groups::stage2_grouped))]
 pub fn stage2_grouped(
     low: &[u64; 128],
     flag: &[u64; 16],
@@ -361,6 +364,7 @@ pub fn slots_grouped(slots: &[u64; 128], on: bool, d: SlotsPlace, part: u8, w: u
 }
 
 // Stage 1 under Direct, of a descriptor at places `d` with limits `l`, before the word of what follows.
+#[tactic(auto, unfolding(crate::specs::Mirror::Groups::direct_grouped))]
 pub fn direct_grouped(
     low: &[u64; 128],
     flag: &[u64; 16],
@@ -383,6 +387,7 @@ pub fn direct_grouped(
 }
 
 // Stage 1 under Indirect.
+#[tactic(auto, unfolding(crate::specs::Mirror::Groups::indirect_grouped))]
 pub fn indirect_grouped(
     low: &[u64; 128],
     state: &[u64; 32],

@@ -377,6 +377,7 @@ const ONE_LEVEL: [u64; 64] = [
 ];
 
 // The words of both stages. A copy is made once for a list, since the compiler would make one at each use.
+#[tactic(auto, unfolding(crate::specs::Mirror::Parts::stage_words, crate::specs::Mirror::Words::keep_of, crate::specs::Mirror::Words::take_of, crate::specs::Stage2::xn_px, crate::specs::Stage2::xn_ux))]
 pub fn stage_words() -> [u64; 96]
     ensures { result ≡ stage_words }
 {
@@ -384,6 +385,7 @@ pub fn stage_words() -> [u64; 96]
 }
 
 // The words of overlay slots.
+#[tactic(auto, unfolding(crate::specs::Mirror::Parts::slot_words, crate::specs::Mirror::Words::keep_of, crate::specs::Mirror::Words::take_of))]
 pub fn slot_words() -> [u64; 64]
     ensures { result ≡ slot_words }
 {
@@ -391,6 +393,7 @@ pub fn slot_words() -> [u64; 64]
 }
 
 // The words of base rights.
+#[tactic(auto, unfolding(crate::specs::Mirror::Parts::base_words, crate::specs::Mirror::Words::keep_of, crate::specs::Mirror::Words::take_of, crate::specs::Indirect::code_of, crate::specs::Direct::ap))]
 pub fn base_words(indirect: bool, two: bool) -> [u64; 64]
     ensures { result ≡ base_words indirect two }
 {

@@ -1,0 +1,19 @@
+-- One entry more.
+use Rattle.std.proofs.Common.{refl, arith, length-set}
+use Rattle.records.proofs.Halves.{one_entry}
+use Rattle.rights.proofs.pass.table.base_table.Goals as goal
+
+pub loop-k-init : goal.loop-k-init
+loop-k-init c = record { within = omega arith; size = refl; made = λ j h. absurd (omega arith) }
+
+pub loop-k-preserved : goal.loop-k-preserved
+loop-k-preserved c =
+    let l = c.loop-k in
+    record {
+      within = omega arith;
+      size = simp length-set l.invariant.size;
+      made = one_entry _ l.table l.k (omega arith) l.invariant.made _ c.entry_at.ensures;
+    }
+
+pub returns : goal.returns
+returns c k h = c.loop-k.invariant.made k (omega arith)
