@@ -1,5 +1,5 @@
 //! Links the static library of the proved judge, from `SONSIPLEX_LIB_DIR` or the repository's
-//! `target/staticlib`.
+//! `crates/sonsiplex/out`.
 
 use std::env;
 use std::path::PathBuf;
@@ -8,11 +8,11 @@ fn main() {
     let manifest = env::var_os("CARGO_MANIFEST_DIR").expect("cargo sets CARGO_MANIFEST_DIR");
     let place = env::var_os("SONSIPLEX_LIB_DIR")
         .map(PathBuf::from)
-        .unwrap_or_else(|| PathBuf::from(manifest).join("../../target/staticlib"));
+        .unwrap_or_else(|| PathBuf::from(manifest).join("../../crates/sonsiplex/out"));
     let archive = place.join("libsonsiplex.a");
     if !archive.is_file() {
         println!(
-            "cargo:warning=no libsonsiplex.a in {}; make it with `rt staticlib sonsiplex`",
+            "cargo:warning=no libsonsiplex.a in {}; make it with `rt lib` in crates/sonsiplex",
             place.display()
         );
     }
