@@ -10,7 +10,7 @@ use lib.Seq.{take_at, drop_at, take-length, drop-drop, length-take-le, set_split
 use borrow.Author.Tests.{le-leb, lt-leb}
 use Rattle.text.specs.Mirror.Put.{Put, placed}
 
--- what `bytes::copy` leaves where a word was lent its place
+-- a word copied over the start of a place that was lent as long as the word
 pub word-put : (o w m : List ℕ) (k : ℕ) → k + length w ≤ length o
     → m ≡ take (length w) w ++ drop (length w) (take (k + length w - k) (drop k o))
     → Put o k w (take k o ++ (m ++ drop (k + length w - k) (drop k o))) (k + length w)

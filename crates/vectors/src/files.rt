@@ -3,6 +3,7 @@
 use crate::output::form;
 use crate::table::{Buffer, Case, front, low, more, put, record, words};
 use records::mapfile::FileRead;
+use std::io;
 
 // How many bytes are not 170.
 fn changed(s: &[u8]) -> u64 {
@@ -17,24 +18,24 @@ fn changed(s: &[u8]) -> u64 {
 
 // Reads a map file, with `room` bytes of `leaves` lent for the leaves, and prints the answer and how many bytes the setup has; 0 for a
 // refused file.
-fn print_read(file: &[u8], leaves: &mut [u8], room: usize) {
+fn print_read(rt: &impl Print, file: &[u8], leaves: &mut [u8], room: usize) -> io::Result<()> {
     if leaves.len() < room {
-        return;
+        return Ok(());
     }
     match records::mapfile::read_file(file, &mut leaves[0..room]) {
         FileRead::Map(n) => {
             let setup = records::mapfile::setup_bytes(file);
-            form(b" map # setup bytes #", &[n as u64, setup.len() as u64]);
+            form(rt, b" map # setup bytes #", &[n as u64, setup.len() as u64])
         }
-        FileRead::Refused(k) => form(b" refused # setup bytes 0", &[k as u64]),
+        FileRead::Refused(k) => form(rt, b" refused # setup bytes 0", &[k as u64]),
     }
 }
 
 // The same with a fresh buffer, and prints how many of its bytes changed.
-fn print_changed(file: &[u8], room: usize) {
+fn print_changed(rt: &impl Print, file: &[u8], room: usize) -> io::Result<()> {
     let mut leaves = [170u8; 36866];
-    print_read(file, &mut leaves, room);
-    form(b" leaf bytes changed #\n", &[changed(&leaves)]);
+    print_read(rt, file, &mut leaves, room)?;
+    form(rt, b" leaf bytes changed #\n", &[changed(&leaves)])
 }
 
 // The example's setup and two leaves, each after the header of its field.
@@ -54,12 +55,12 @@ fn example() -> Buffer {
     file
 }
 
-pub(crate) fn print_file(w: &Case) {
+pub(crate) fn print_file(rt: &impl Print, w: &Case) -> io::Result<()> {
     let at = w[3] as usize;
     if 43084 <= at {
-        return;
+        return Ok(());
     }
     let mut file = example();
     file[at] = low(w[4]);
-    print_changed(front(&file, w[1] as usize), w[2] as usize);
+    print_changed(rt, front(&file, w[1] as usize), w[2] as usize)
 }

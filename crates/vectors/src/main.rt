@@ -15,50 +15,60 @@
 // What of a list lies past its two leaves is zeros.
 #![tactic(auto)]
 
+ghost use Rattle.std.specs.Prelude.{◌≤◌, length};
+
 use crate::table::Case;
-use bytes::scan::find;
-use libc::STDIN_FILENO;
+use std::io;
 
 mod decoding;
 mod files;
+mod input;
 mod judgements;
 mod lists;
 mod output;
 mod table;
 
-fn print_answer(w: &Case) {
+fn print_answer(rt: &impl Print, w: &Case) -> io::Result<()> {
     match w[0] {
-        0 => decoding::print_setup(w),
-        1 => decoding::print_leaf(w),
-        2 => decoding::print_stage1(w[1], w[2], w[3]),
-        3 => decoding::print_stage2(w[1]),
-        4 => decoding::print_control_word(w[1]),
-        5 => decoding::print_access(w[1]),
-        6 => files::print_file(w),
-        7 => judgements::print_judgement(w),
-        8 => lists::print_list(w),
-        9 => lists::print_plan(w),
-        _ => output::text(b"unknown kind\n"),
+        0 => decoding::print_setup(rt, w),
+        1 => decoding::print_leaf(rt, w),
+        2 => decoding::print_stage1(rt, w[1], w[2], w[3]),
+        3 => decoding::print_stage2(rt, w[1]),
+        4 => decoding::print_control_word(rt, w[1]),
+        5 => decoding::print_access(rt, w[1]),
+        6 => files::print_file(rt, w),
+        7 => judgements::print_judgement(rt, w),
+        8 => lists::print_list(rt, w),
+        9 => lists::print_plan(rt, w),
+        _ => output::text(rt, b"unknown kind\n"),
     }
 }
 
-fn print_case(line: &[u8]) {
-    let n = find(line, 0, line.len(), b':');
-    output::text(table::past(line, n, 2));
-    print_answer(&table::words(table::front(line, n)));
+// The index of the first byte `b`, or the text's length where there is none.
+fn find(t: &[u8], b: u8) -> usize
+    ensures { result ≤ length t.now }
+{
+    t.iter().position(|c| *c == b).unwrap_or(t.len())
 }
 
-fn print_cases(t: &[u8]) {
+fn print_case(rt: &impl Print, line: &[u8]) -> io::Result<()> {
+    let n = find(line, b':');
+    output::text(rt, table::past(line, n, 2))?;
+    print_answer(rt, &table::words(table::front(line, n)))
+}
+
+fn print_cases(rt: &impl Print, t: &[u8]) -> io::Result<()> {
     let mut at: usize = 0;
     while at < t.len() {
-        let end = find(t, at, t.len(), 10);
-        print_case(&t[at..end]);
+        let end = at + find(&t[at..], b'\n');
+        print_case(rt, &t[at..end])?;
         at = end + 1;
     }
+    Ok(())
 }
 
-fn main() {
-    let mut table = io::large_buffer();
-    let n = io::read_full(STDIN_FILENO, &mut table);
-    print_cases(&table[..n]);
+fn main(rt: HostRuntime) -> io::Result<()> {
+    let mut table = [0u8; 65536];
+    let n = input::read_full(&mut rt.stdin(), &mut table)?;
+    print_cases(&rt, &table[..n])
 }

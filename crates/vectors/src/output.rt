@@ -1,18 +1,19 @@
 // Answers printed to standard output.
 use crate::table::more;
-use libc::STDOUT_FILENO;
+use std::io;
 
-pub(crate) fn text(t: &[u8]) {
-    io::write_all(STDOUT_FILENO, t);
+pub(crate) fn text(rt: &impl Print, t: &[u8]) -> io::Result<()> {
+    rt.write_all(t)
 }
 
 // The byte at index `i`, where `here` is on.
-fn print_byte(here: bool, t: &[u8], i: usize) {
+fn print_byte(rt: &impl Print, here: bool, t: &[u8], i: usize) -> io::Result<()> {
     if here {
         if i < t.len() {
-            text(&t[i..i + 1]);
+            return text(rt, &t[i..i + 1]);
         }
     }
+    Ok(())
 }
 
 // Whether word `k` is printed: the text before the first space and the words after the last flag are.
@@ -27,21 +28,23 @@ fn flag(on: &[bool], k: usize) -> bool {
 }
 
 // The number at index `k` where `c` asks for it: `#` in decimal, `$` as the sixteen digits of a register.
-fn print_value(c: u8, values: &[u64], k: usize) {
+fn print_value(rt: &impl Print, c: u8, values: &[u64], k: usize) -> io::Result<()> {
     if values.len() <= k {
-        return;
+        return Ok(());
     }
+    let value = values[k];
     if c == b'#' {
-        io::print_decimal(STDOUT_FILENO, values[k]);
+        return print!(rt; "{value}");
     }
     if c == b'$' {
-        io::print_hex(STDOUT_FILENO, values[k], 16);
+        return print!(rt; "{value:016x}");
     }
+    Ok(())
 }
 
 // A text without the words whose flag is off: a flag to each word after the first, in order. In place of each `#` stands the next number in
 // decimal, of each `$` the next as the sixteen digits of a register. Numbers and the line's end are always printed.
-pub(crate) fn line(t: &[u8], on: &[bool], values: &[u64]) {
+pub(crate) fn line(rt: &impl Print, t: &[u8], on: &[bool], values: &[u64]) -> io::Result<()> {
     let mut w: usize = 0;
     let mut k: usize = 0;
     let mut i: usize = 0;
@@ -49,14 +52,15 @@ pub(crate) fn line(t: &[u8], on: &[bool], values: &[u64]) {
         let c = t[i];
         let value = (c == b'#') | (c == b'$');
         w = more(w, c == b' ');
-        print_value(c, values, k);
-        print_byte((c == 10) | (flag(on, w) & !value), t, i);
+        print_value(rt, c, values, k)?;
+        print_byte(rt, (c == 10) | (flag(on, w) & !value), t, i)?;
         k = more(k, value);
         i += 1;
     }
+    Ok(())
 }
 
 // A text with numbers.
-pub(crate) fn form(t: &[u8], values: &[u64]) {
-    line(t, &[], values);
+pub(crate) fn form(rt: &impl Print, t: &[u8], values: &[u64]) -> io::Result<()> {
+    line(rt, t, &[], values)
 }

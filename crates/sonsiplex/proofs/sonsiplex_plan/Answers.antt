@@ -1,0 +1,10 @@
+-- A plan's answer fits its fields.
+use Rattle.std.proofs.Common.{arith}
+use Rattle.sonsiplex.proofs.Exported.{plan-fit}
+use Rattle.sonsiplex.proofs.sonsiplex_plan.Goals as goal
+
+pub overflow_cast-r : goal.overflow_cast-r
+overflow_cast-r c = omega (arith, (plan-fit _ _ _ _ _ c.plan_level.ensures.value c.in-Register.is).2)
+
+pub overflow_cast-leaf : goal.overflow_cast-leaf
+overflow_cast-leaf c = omega (arith, (plan-fit _ _ _ _ _ c.plan_level.ensures.value c.in-Refused.is).0)
