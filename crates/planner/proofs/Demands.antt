@@ -1,6 +1,6 @@
 -- The planner's answers meet its demands, and any two answers that meet them are equal: every input is refused before the leaves, at a first leaf, or left
 -- to demand 3, whose answers are one. Assumes nothing.
-use mathlib.Core.Path.{◌≡◌, refl, sym, ap, ◌∙◌}
+use mathlib.Core.Path.{◌≡◌, refl, sym, ap, ap₂, ◌∙◌}
 use mathlib.Core.Bool.{Bool, true, false, cond, not, ◌&&◌}
 use mathlib.Core.List.{List}
 use mathlib.Core.Logic.{◌⊎◌, inl, inr}
@@ -31,12 +31,13 @@ use Rattle.rights.specs.Checks.{setup_check, level_check, leaf_check}
 use Rattle.rights.specs.Promise.{all_open, refusal_of, answer_with, level_refusal, LevelRange, range_of}
 use Rattle.rights.specs.declared.answers.Answer.TheVariants as answer
 use Rattle.rights.specs.declared.checks.LevelCheck.TheVariants as level
-use Rattle.planner.specs.Demands.{Passes, FirstUncured, Demand3, Accepted, level_at, start_refusal, leaf_refusal, PlannerNumber, PlannerDemands}
-use Rattle.planner.specs.Plan.{range_plan, leaf_plan_of, plans_of, or_refused, refused_from, settled, start_level, start_of, plan_leaves, plan_from, plan_setup, plan_of}
+use Rattle.planner.specs.Demands.{Passes, FirstUncured, Demand3, Accepted, level_at, start_refusal, leaf_refusal, PlannerNumber, PlannerDemands, BothDemands}
+use Rattle.planner.specs.Plan.{range_plan, leaf_plan_of, plans_of, or_refused, refused_from, settled, start_level, start_of, plan_leaves, plan_from, plan_setup, plan_of, both_of}
 use Rattle.planner.specs.declared.plan.LeafPlan.{LeafPlan}
 use Rattle.planner.specs.declared.plan.LeafPlan.TheVariants as plan
 use Rattle.planner.specs.declared.plan.Plan.{Plan}
 use Rattle.planner.specs.declared.plan.Plan.TheVariants.{Register, Refused}
+use Rattle.planner.specs.declared.plan.Plans.{Plans}
 use Rattle.planner.specs.declared.plan.Start.{Start}
 use Rattle.planner.specs.declared.plan.Start.TheVariants as start
 use Rattle.planner.proofs.Theorem.{ranged-at, demand3}
@@ -229,6 +230,15 @@ module _ (b : List ℕ) (lv : ℕ) (ls : List ℕ) where
       go (refused-at k i e h) = rw (stopped e k i h) (at_leaf k i e h)
       go (none-refused e h) = accepted-case _ e h (demand3 b lv ls (plan_of b lv ls) refl s l (accepted e h))
 
+  -- an input that is answered a register is accepted
+  pub register-accepted : (r : ℕ) → plan_of b lv ls ≡ Register r → Accepted b lv ls s l
+  register-accepted r = go (plan_of b lv ls) case
+    where
+      go : (p : Plan) → Case p → p ≡ Register r → Accepted b lv ls s l
+      go _ (before k e) q = clash (cc)
+      go _ (at_leaf k i e h) q = clash (cc)
+      go p (accepted-case _ e h d) q = accepted e h
+
   number_in : (p : Plan) → Case p → (m j : ℕ) → p ≡ Refused m j → PlannerNumber m
   number_in _ (before k e) m j q = let g : k ≡ m = cc in rw (← g) (start-number k e)
   number_in _ (at_leaf k i e h) m j q = let g : k ≡ m = cc in rw (← g) (leaf-number-of s l (leaf_at ls i) k h.refuses)
@@ -265,3 +275,17 @@ module _ (b : List ℕ) (lv : ℕ) (ls : List ℕ) where
       go (refused-before k h) = d.before k h ∙ sym (e.before k h)
       go (refused-at k i h a) = d.at_leaf h k i a.within a.before a.refuses ∙ sym (e.at_leaf h k i a.within a.before a.refuses)
       go (none-refused h a) = same-settled p q (d.settled s l (accepted h a)) (e.settled s l (accepted h a))
+
+-- the answers that are the plans of both levels meet the demands, and no others do
+pub both-met : (b ls : List ℕ) (r : Plans) → r ≡ both_of b ls → BothDemands b ls r
+unfolding both_of
+both-met b ls r e = record {
+  privileged = plan-met b 0 ls r.privileged (ap (λ (x : Plans). x.privileged) e);
+  unprivileged = plan-met b 1 ls r.unprivileged (ap (λ (x : Plans). x.unprivileged) e);
+}
+
+pub both-unique : (b ls : List ℕ) (r q : Plans) → BothDemands b ls r → BothDemands b ls q → r ≡ q
+both-unique b ls r q d e =
+    ap₂ (λ (x y : Plan). record { privileged = x; unprivileged = y })
+    (plan-unique b 0 ls r.privileged q.privileged d.privileged e.privileged)
+    (plan-unique b 1 ls r.unprivileged q.unprivileged d.unprivileged e.unprivileged)

@@ -21,6 +21,7 @@ use Rattle.rights.specs.declared.answers.Answer.TheVariants as answer
 use Rattle.rights.specs.declared.checks.LevelCheck.TheVariants.{Known}
 use Rattle.planner.specs.declared.plan.Plan.{Plan}
 use Rattle.planner.specs.declared.plan.Plan.TheVariants.{Register, Refused}
+use Rattle.planner.specs.declared.plan.Plans.{Plans}
 
 -- Demand 3: for every accepted setup with stage 1 on, every level whose overlay is on and every list of up to 2,048 leaves that pass the planner's leaf
 -- checks. An access is allowed where the judge's rights layer permits it with the register put in place of that level's POR.
@@ -128,3 +129,8 @@ pub record PlannerDemands (b : List ℕ) (lv : ℕ) (ls : List ℕ) (p : Plan) :
       → ((j : ℕ) → j < i → leaf_refusal (setup_of b) (level_at lv) (leaf_at ls j) ≡ check.Passes)
       → leaf_refusal (setup_of b) (level_at lv) (leaf_at ls i) ≡ check.Refused k → p ≡ Refused k i
   pub settled : Demanded b lv ls p
+
+-- Request A5: both levels are answered, and the demands hold of each separately
+pub record BothDemands (b ls : List ℕ) (r : Plans) : Type 0 where
+  pub privileged : PlannerDemands b 0 ls r.privileged
+  pub unprivileged : PlannerDemands b 1 ls r.unprivileged

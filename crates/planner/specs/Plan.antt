@@ -25,6 +25,7 @@ use Rattle.planner.specs.declared.plan.LeafPlan.{LeafPlan}
 use Rattle.planner.specs.declared.plan.LeafPlan.TheVariants as plan
 use Rattle.planner.specs.declared.plan.Plan.{Plan}
 use Rattle.planner.specs.declared.plan.Plan.TheVariants.{Register, Refused}
+use Rattle.planner.specs.declared.plan.Plans.{Plans}
 use Rattle.planner.specs.declared.plan.Start.{Start}
 use Rattle.planner.specs.declared.plan.Start.TheVariants as start
 
@@ -135,3 +136,7 @@ plan_setup lv ls (setup.Read s) = plan_from s ls (start_of s.control lv (length 
 
 unfoldable pub plan_of : List ℕ → ℕ → List ℕ → Plan
 plan_of bytes lv ls = plan_setup lv ls (read_setup bytes)
+
+-- request A5: both levels, each with its own plan
+unfoldable pub both_of : List ℕ → List ℕ → Plans
+both_of bytes ls = record { privileged = plan_of bytes 0 ls; unprivileged = plan_of bytes 1 ls }

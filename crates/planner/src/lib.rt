@@ -1,18 +1,18 @@
 // The planner layer: the overlay register of a level that stops every forbidden access of that level on a list of leaves, with each
 // slot bit on that may be on (document 01, 'The planner'; refusals 1 to 7 and 10 to 13).
 //
-// `plan_level` is the one public function and has no `requires`. Of the rights layer the planner sees the checks, `promise` with specs/Promise and
+// `plan_level` and `plan_levels`, of both levels, are the public functions and have no `requires`. Of the rights layer the planner sees the checks, `promise` with specs/Promise and
 // proofs/PromiseLaws, and the setup's table that it hands through (`pass::table`); tests/promise holds it to that.
 #![tactic(auto)]
 
 ghost use Rattle.std.specs.Prelude.{◌≡◌, ◌/◌, length};
-ghost use Rattle.planner.specs.Demands.{PlannerDemands};
+ghost use Rattle.planner.specs.Demands.{PlannerDemands, BothDemands};
 ghost use Rattle.planner.specs.Mirror.Masks.{plans_by};
-ghost use Rattle.planner.specs.Plan.{in_order, plan_of};
+ghost use Rattle.planner.specs.Plan.{in_order, plan_of, both_of};
 
 use crate::cut::plan_leaf;
 use crate::masks::{cut_mask, first_of, pack};
-use crate::plan::{LeafPlan, Plan, Start};
+use crate::plan::{LeafPlan, Plan, Plans, Start};
 use crate::start::begin;
 use records::access::Level;
 use records::setup::WordsRead;
@@ -78,5 +78,16 @@ pub fn plan_level(setup: &[u8], level: u64, leaves: &[u8]) -> Plan
             let base = base_table(q.control, q.pir.privileged, q.pir.unprivileged);
             plan_leaves(q.control, on, &base, l, leaves)
         }
+    }
+}
+
+// The registers of both levels (request A5).
+pub fn plan_levels(setup: &[u8], leaves: &[u8]) -> Plans
+    ensures value { result ≡ both_of setup.now leaves.now }
+    ensures both_demands { BothDemands setup.now leaves.now result }
+{
+    Plans {
+        privileged: plan_level(setup, 0, leaves),
+        unprivileged: plan_level(setup, 1, leaves),
     }
 }

@@ -15,6 +15,13 @@ pub(crate) enum Start {
     Refused(u8),
 }
 
+// The answers for both levels (request A5).
+#[derive(Clone, Copy)]
+pub struct Plans {
+    pub privileged: Plan,
+    pub unprivileged: Plan,
+}
+
 // The bits `taken` must be off in the slot at `place`; `uncured`: no register cures the leaf. Or a refusal's number.
 #[derive(Clone, Copy)]
 pub(crate) enum LeafPlan {

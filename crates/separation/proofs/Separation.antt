@@ -1,4 +1,5 @@
--- The planner's answer, put in place of that level's POR, stops every forbidden access of that level in the judge's list. Assumes nothing.
+-- The planner's answer, put in place of that level's POR, stops every forbidden access of that level in the judge's list; both levels' answers, put in place
+-- at once, stop those of both. Assumes nothing.
 use Rattle.records.proofs.Cases.{clash, upto, at}
 use mathlib.Core.Path.{◌≡◌, refl, sym, ap, ◌∙◌}
 use mathlib.Core.Bool.{Bool, true, false, cond, ◌&&◌}
@@ -10,18 +11,22 @@ use lib.Dec.{eqb}
 use lib.ListN.{length, get_or}
 use borrow.Author.Tests.{eqb-true}
 use Rattle.records.proofs.CheckLaws.{Ways, refused-before, refused-at, none-refused, ways}
-use Rattle.records.specs.Access.{access_at, access_number}
+use Rattle.records.specs.Access.{access_at, access_number, access_of}
 use Rattle.records.specs.Bits.{bit}
 use Rattle.records.specs.Leaf.{leaf_at, leaf_count}
 use Rattle.records.specs.Setup.{setup_of, read_setup}
+use Rattle.records.specs.declared.access.Level.{Level}
+use Rattle.records.specs.declared.access.Level.TheVariants.{Privileged, Unprivileged}
+use Rattle.records.specs.declared.access.Right.{Right}
 use Rattle.records.specs.declared.check.Check.{Check}
 use Rattle.records.specs.declared.leaf.Leaf.{Leaf}
 use Rattle.records.specs.declared.setup.Setup.{Setup}
 use Rattle.records.specs.declared.setup.SetupRead.TheVariants as setup
 use Rattle.rights.proofs.OrderLaws.{stages-as}
 use Rattle.rights.specs.Answers.{permitted, follow}
-use Rattle.rights.specs.Order.{leaf_answer}
+use Rattle.rights.specs.Order.{stages_answer, leaf_answer}
 use Rattle.rights.specs.Promise.{put}
+use Rattle.rights.specs.Stage1.{base_rights, base_cause, base_answer, stage1_answer}
 use Rattle.rights.specs.declared.answers.Answer.{Answer}
 use Rattle.rights.specs.declared.answers.Answer.TheVariants as answer
 use Rattle.judge.proofs.ListMet.{list-met}
@@ -29,10 +34,13 @@ use Rattle.judge.specs.Demands.{stage1, stage2, is_judged, start_refusal, leaf_r
 use Rattle.judge.specs.List.{list_of}
 use Rattle.judge.specs.declared.answers.Listed.TheVariants.{Done}
 use Rattle.planner.proofs.Consequences.{access-number}
+use Rattle.planner.proofs.Demands.{register-accepted}
 use Rattle.planner.proofs.Theorem.{demand3}
-use Rattle.planner.specs.Plan.{plan_of}
+use Rattle.planner.specs.Demands.{Accepted, Largest}
+use Rattle.planner.specs.Plan.{plan_of, both_of}
+use Rattle.planner.specs.declared.plan.Plan.TheVariants.{Register}
 use Rattle.separation.proofs.InPlace.{put-read}
-use Rattle.separation.specs.Separation.{with_por, Separated}
+use Rattle.separation.specs.Separation.{with_por, Stopped, Separated, answer_at, with_pors, BothSeparated}
 
 -- a bit of two numbers joined
 joined : (a b k : ℕ) → bit (bit_and a b) k ≡ (bit a k && bit b k)
@@ -88,14 +96,56 @@ is_read b s = go (eqb (length b) 52) refl
     go true q e = (eqb-true _ _ q, cc)
     go false q e = clash (cc)
 
+-- the other level's POR plays no part in an access
+own-por : (s : Setup) (r : Level → ℕ) (l : Level) (f : Leaf) (x : Right)
+    → leaf_answer (put (put s Privileged (r Privileged)) Unprivileged (r Unprivileged)) f (access_of l x) ≡ leaf_answer (put s l (r l)) f (access_of l x)
+unfolding stages_answer stage1_answer base_answer base_rights base_cause
+own-por s r Privileged f x = refl
+own-por s r Unprivileged f x = refl
+
+-- a largest register of the setup of the bytes b
+module _ (b ls o c : List ℕ) (s : Setup) (l : Level) (r : ℕ) (g : Largest s l ls r) where
+  -- put in place in bytes that are read as a setup
+  in-place : (v : List ℕ) (t : Setup) → read_setup v ≡ setup.Read t → read_setup (with_por v l r) ≡ setup.Read (put t l r)
+  in-place v t q = let w = is_read v t q in rw w.1 (put-read v l r w.0 g.usable.word)
+
+  -- under a setup that answers the accesses of that level as s with the register in place does, a list stops what that level forbids
+  stops : (v : List ℕ) (t : Setup) (m : ℕ) → read_setup v ≡ setup.Read t
+      → ((f : Leaf) (x : Right) → leaf_answer t f (access_of l x) ≡ leaf_answer (put s l r) f (access_of l x))
+      → (list_of v ls o c).answer ≡ Done m → Stopped l ls (list_of v ls o c).out
+  stops v t m q same d i x h =
+      let n = access_number l x in
+      let p = (list_of v ls o c).out in
+      let bits = rw (sym (is_read v t q).1) at (done-bits v ls o c m d i n h) in
+      joined (get_or p i 0) (leaf_at ls i).forbidden n
+      ∙ off (bit (get_or p i 0) n) (bit (leaf_at ls i).forbidden n)
+      (λ on forbids. g.separates i h x forbids (rw (access-number l x, same (leaf_at ls i) x) at (by-stages t (leaf_at ls i) n (sym bits ∙ on))))
+
 pub separated : (b : List ℕ) (lv : ℕ) (ls o c : List ℕ) → Separated b lv ls o c
-separated b lv ls o c s l r m A e d i x h =
-    let g = (demand3 b lv ls (plan_of b lv ls) refl s l A).largest r e in
-    let w = is_read b s A.read in
-    let q : read_setup (with_por b l r) ≡ setup.Read (put s l r) = rw w.1 (put-read b l r w.0 g.usable.word) in
-    let n = access_number l x in
-    let p = (list_of (with_por b l r) ls o c).out in
-    let bits = rw (sym (is_read (with_por b l r) (put s l r) q).1) at (done-bits (with_por b l r) ls o c m d i n h) in
-    joined (get_or p i 0) (leaf_at ls i).forbidden n
-    ∙ off (bit (get_or p i 0) n) (bit (leaf_at ls i).forbidden n)
-    (λ on forbids. g.separates i h x forbids (rw (access-number l x) at (by-stages (put s l r) (leaf_at ls i) n (sym bits ∙ on))))
+separated b lv ls o c s l r m a e =
+    let g = (demand3 b lv ls (plan_of b lv ls) refl s l a).largest r e in
+    stops b ls o c s l r g (with_por b l r) (put s l r) m (in-place b ls o c s l r g b s a.read) (λ f x. refl)
+
+-- the number of a level
+abbrev number_at : Level → ℕ
+number_at Privileged = 0
+number_at Unprivileged = 1
+
+-- what the planner answers both is accepted, and each register is the largest
+both-accepted : (b ls : List ℕ) (l : Level) (r : ℕ) → answer_at (both_of b ls) l ≡ Register r → Accepted b (number_at l) ls (setup_of b) l
+unfolding both_of
+both-accepted b ls Privileged r e = register-accepted b 0 ls r e
+both-accepted b ls Unprivileged r e = register-accepted b 1 ls r e
+
+both-largest : (b ls : List ℕ) (l : Level) (r : ℕ) → answer_at (both_of b ls) l ≡ Register r → Largest (setup_of b) l ls r
+unfolding both_of
+both-largest b ls Privileged r e = (demand3 b 0 ls (plan_of b 0 ls) refl (setup_of b) Privileged (register-accepted b 0 ls r e)).largest r e
+both-largest b ls Unprivileged r e = (demand3 b 1 ls (plan_of b 1 ls) refl (setup_of b) Unprivileged (register-accepted b 1 ls r e)).largest r e
+
+pub both-separated : (b ls o c : List ℕ) → BothSeparated b ls o c
+both-separated b ls o c r m e d l =
+    let s = setup_of b in
+    let g = λ (k : Level). both-largest b ls k (r k) (e k) in
+    let p = in-place b ls o c s Privileged (r Privileged) (g Privileged) b s (both-accepted b ls Privileged (r Privileged) (e Privileged)).read in
+    let q = in-place b ls o c s Unprivileged (r Unprivileged) (g Unprivileged) (with_por b Privileged (r Privileged)) (put s Privileged (r Privileged)) p in
+    stops b ls o c s l (r l) (g l) (with_pors b r) _ m q (own-por s r l) d
