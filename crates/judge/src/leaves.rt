@@ -51,7 +51,8 @@ pub(crate) fn list_leaves(
 {
     let n = leaves.len() / 18;
     let marks = fill_list(s, leaves, n, rights, found);
-    if marks != 0 {
+    let marked = marks != 0;
+    if marked {
         return first_refusal(s, leaves, n);
     }
     out[..n].copy_from_slice(&rights[..n]);

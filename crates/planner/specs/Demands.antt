@@ -1,6 +1,6 @@
 -- Demand 3, and the planner's part of demand 1 with the refusals before 10 (document 01, 'The planner' and the planner's sentences of 'The order a judgement
 -- is made in'), on the paper's conditions. `plan-met` of proofs/Demands says that the planner meets them, and `plan-unique` that they leave one
--- answer for every input. Assumes nothing.
+-- answer for every input; `both-met` and `both-unique` say so of both levels. Assumes nothing.
 use Rattle.std.specs.Prelude.{ℕ, ◌%◌, ◌^◌, ◌≤◌, ◌<◌, ◌≡◌, List, true, cond, not, ◌&&◌, ◌⊎◌, eqb, leb, length}
 use Rattle.records.specs.Access.{access_number}
 use Rattle.records.specs.Bits.{bit, nibble}

@@ -1,4 +1,4 @@
--- Document 01, 'Setup and leaf records': numbers are little_endian. The number that is read of the bytes of x, lowest first, is x. Assumes
+-- Document 01, 'Setup and leaf records': numbers are little-endian. The number that is read of the bytes of x, lowest first, is x. Assumes
 -- nothing.
 use mathlib.Core.Path.{◌≡◌}
 use mathlib.Core.List.{List, [], ◌∷◌}

@@ -1,3 +1,4 @@
+pub mod AccessChecks
 pub mod Branches
 pub mod Tables
 pub mod BaseMasks

@@ -41,7 +41,7 @@ pub fn check_setup(c: Control) -> Check
 }
 
 // 4, for an access number.
-#[tactic(auto, unfolding(crate::specs::Checks::access_check))]
+#[tactic(auto, using(crate::proofs::AccessChecks::known_of_two, crate::proofs::AccessChecks::known_of_three, crate::proofs::AccessChecks::refused_unknown), unfolding(crate::specs::Checks::access_check))]
 pub(crate) fn check_access(two: bool, n: u64) -> AccessCheck
     ensures { result ≡ access_check two n }
 {

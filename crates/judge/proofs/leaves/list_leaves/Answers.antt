@@ -6,17 +6,17 @@ use Rattle.judge.specs.List.{ListResult}
 use Rattle.judge.proofs.ListLaws.{clear-list, marked-list}
 use Rattle.judge.proofs.leaves.list_leaves.Goals as goal
 
-pub returns-then-marks-ne0-clause-value : goal.returns-then-marks-ne0-clause-value
-returns-then-marks-ne0-clause-value c =
-    (marked-list c.args.s c.args.leaves.now c.args.out.now c.args.causes.now c.requires.leaves_bound.1 (sym c.fill_list-marks.ensures.0 ∙ ne_eqb _ 0 c.if-marks-ne0.true) _ c.first_refusal.ensures).0
+pub returns-then-marked-clause-value : goal.returns-then-marked-clause-value
+returns-then-marked-clause-value c =
+    (marked-list c.args.s c.args.leaves.now c.args.out.now c.args.causes.now c.requires.leaves_bound.1 (sym c.fill_list-marks.ensures.0 ∙ ne_eqb _ 0 c.if-marked.true) _ c.first_refusal.ensures).0
 
-pub returns-then-marks-ne0-clause-out_after : goal.returns-then-marks-ne0-clause-out_after
-returns-then-marks-ne0-clause-out_after c =
-    (marked-list c.args.s c.args.leaves.now c.args.out.now c.args.causes.now c.requires.leaves_bound.1 (sym c.fill_list-marks.ensures.0 ∙ ne_eqb _ 0 c.if-marks-ne0.true) _ c.first_refusal.ensures).1.0
+pub returns-then-marked-clause-out_after : goal.returns-then-marked-clause-out_after
+returns-then-marked-clause-out_after c =
+    (marked-list c.args.s c.args.leaves.now c.args.out.now c.args.causes.now c.requires.leaves_bound.1 (sym c.fill_list-marks.ensures.0 ∙ ne_eqb _ 0 c.if-marked.true) _ c.first_refusal.ensures).1.0
 
-pub returns-then-marks-ne0-clause-causes_after : goal.returns-then-marks-ne0-clause-causes_after
-returns-then-marks-ne0-clause-causes_after c =
-    (marked-list c.args.s c.args.leaves.now c.args.out.now c.args.causes.now c.requires.leaves_bound.1 (sym c.fill_list-marks.ensures.0 ∙ ne_eqb _ 0 c.if-marks-ne0.true) _ c.first_refusal.ensures).1.1
+pub returns-then-marked-clause-causes_after : goal.returns-then-marked-clause-causes_after
+returns-then-marked-clause-causes_after c =
+    (marked-list c.args.s c.args.leaves.now c.args.out.now c.args.causes.now c.requires.leaves_bound.1 (sym c.fill_list-marks.ensures.0 ∙ ne_eqb _ 0 c.if-marked.true) _ c.first_refusal.ensures).1.1
 
 pub returns-clause-value : goal.returns-clause-value
 returns-clause-value c =
@@ -27,7 +27,7 @@ returns-clause-value c =
     let k : 6 * n ≤ length x = omega (arith, c.fill_list-marks.auto.found, c.requires.leaves_in_bounds.1) in
     let e =
     clear-list c.args.s c.args.leaves.now c.args.out.now c.args.causes.now c.requires.leaves_bound.1 v x g k
-    (sym c.fill_list-marks.ensures.0 ∙ eq-eqb _ 0 c.if-marks-ne0.false) c.fill_list-marks.ensures.1 in
+    (sym c.fill_list-marks.ensures.0 ∙ eq-eqb _ 0 c.if-marked.false) c.fill_list-marks.ensures.1 in
     ap (λ (y : ListResult). y.answer) (sym e)
 
 pub returns-clause-out_after : goal.returns-clause-out_after
@@ -39,7 +39,7 @@ returns-clause-out_after c =
     let k : 6 * n ≤ length x = omega (arith, c.fill_list-marks.auto.found, c.requires.leaves_in_bounds.1) in
     let e =
     clear-list c.args.s c.args.leaves.now c.args.out.now c.args.causes.now c.requires.leaves_bound.1 v x g k
-    (sym c.fill_list-marks.ensures.0 ∙ eq-eqb _ 0 c.if-marks-ne0.false) c.fill_list-marks.ensures.1 in
+    (sym c.fill_list-marks.ensures.0 ∙ eq-eqb _ 0 c.if-marked.false) c.fill_list-marks.ensures.1 in
     copied n _ v c.args.out.now g c.copy_from_slice.ensures.after ∙ ap (λ (y : ListResult). y.out) (sym e)
 
 pub returns-clause-causes_after : goal.returns-clause-causes_after
@@ -51,5 +51,5 @@ returns-clause-causes_after c =
     let k : 6 * n ≤ length x = omega (arith, c.fill_list-marks.auto.found, c.requires.leaves_in_bounds.1) in
     let e =
     clear-list c.args.s c.args.leaves.now c.args.out.now c.args.causes.now c.requires.leaves_bound.1 v x g k
-    (sym c.fill_list-marks.ensures.0 ∙ eq-eqb _ 0 c.if-marks-ne0.false) c.fill_list-marks.ensures.1 in
+    (sym c.fill_list-marks.ensures.0 ∙ eq-eqb _ 0 c.if-marked.false) c.fill_list-marks.ensures.1 in
     copied (6 * n) _ x c.args.causes.now k c.copy_from_slice-2.ensures.after ∙ ap (λ (y : ListResult). y.causes) (sym e)
