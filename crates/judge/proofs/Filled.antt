@@ -19,7 +19,7 @@ use Rattle.rights.proofs.WordNumbers.{number-law, known-number}
 use Rattle.rights.specs.Mirror.Parts.{leaf_word, leaf_number, known_number}
 use Rattle.attributes.proofs.KnownLaws.{known-law}
 use Rattle.attributes.specs.Mirror.Known.{known_with}
-use Rattle.judge.specs.Mirror.Words.{marks_in, total, known_of, cause_in, word_at, mark_at, clear, put_at, Tables}
+use Rattle.judge.specs.Mirror.Words.{marks_in, total, known_of, rights_in, cause_in, word_at, mark_at, clear, put_at, Tables, Found}
 
 fewer : (f : ℕ → ℕ) (t : List ℕ) (m n : ℕ) → n ≤ m → Entries f t m → Entries f t n
 fewer f t m n h e j g = e j (omega arith)
@@ -91,3 +91,42 @@ module _ (s : Setup) (ls : List ℕ) where
           sort p q r s t u v w =
               each (p ∷ q ∷ r ∷ s ∷ t ∷ u ∷ v ∷ w ∷ []) (λ (x : List Bool). ((nth x 0 && nth x 1) && (nth x 2 && nth x 3)) && ((nth x 4 && nth x 5) && (nth x 6 && nth x 7)))
               (λ (x : List Bool). ((nth x 0 && nth x 2) && (nth x 4 && nth x 6)) && ((nth x 1 && nth x 3) && (nth x 5 && nth x 7))) refl
+
+-- what a loop over the leaves keeps, before leaf i of n: the rights v and the causes x of the leaves so far, in buffers as long as v₀ and x₀ that were lent,
+-- and what was gathered tells whether one of them is refused
+pub record Gathered (s : Setup) (ls : List ℕ) (n : ℕ) (v₀ x₀ : List ℕ) (m l f : ℕ) (v x : List ℕ) (i : ℕ) : Type 0 where
+  pub within : i ≤ n
+  pub rights_kept : length v ≡ length v₀
+  pub causes_kept : length x ≡ length x₀
+  pub marked : eqb (total m l f) 0 ≡ clear s ls i
+  pub rights_made : Entries (λ (j : ℕ). rights_in (word_at s ls j)) v i
+  pub causes_made : Entries (λ (k : ℕ). cause_in (word_at s ls (k / 6)) (k % 6)) x (6 * i)
+
+module _ (s : Setup) (ls : List ℕ) (n : ℕ) (v₀ x₀ : List ℕ) where
+  -- before the first leaf
+  pub none : Gathered s ls n v₀ x₀ 0 0 0 v₀ x₀ 0
+  none = record {
+    within = omega arith;
+    rights_kept = refl;
+    causes_kept = refl;
+    marked = refl;
+    rights_made = λ j h. absurd (omega arith);
+    causes_made = λ k h. absurd (omega arith);
+  }
+
+  -- one leaf more, of the word w, the limits a and the forbidden byte b
+  pub one_leaf : (m l f : ℕ) (v x : List ℕ) (i : ℕ) → Gathered s ls n v₀ x₀ m l f v x i → i < n → n ≤ length v₀ → 6 * n + 2 ≤ length x₀
+      → (w a b p : ℕ) (y : List ℕ) → w ≡ word_at s ls i → a ≡ (leaf_at ls i).limits → b ≡ (leaf_at ls i).forbidden → p ≡ marks_in w → y ≡ put_at x (6 * i) w
+      → Gathered s ls n v₀ x₀ (bit_or m p) (bit_or l a) (bit_or f b) (set v i (rights_in w)) y (i + 1)
+  one_leaf m l f v x i G h hv hx w a b p y e d g q z = record {
+    within = omega arith;
+    rights_kept = simp length-set G.rights_kept;
+    causes_kept = ap length z ∙ put-length x (6 * i) w ∙ G.causes_kept;
+    marked = rw q (marks-are s ls i m l f w a b d g e G.marked);
+    rights_made = one_entry _ v i (omega (arith, G.rights_kept)) G.rights_made _ (ap rights_in e);
+    causes_made = rw z (put_six s ls x i w (omega (arith, G.causes_kept)) e G.causes_made);
+  }
+
+  -- after the last
+  pub every_leaf : (m l f : ℕ) (v x : List ℕ) (i r : ℕ) → Gathered s ls n v₀ x₀ m l f v x i → n ≤ i → r ≡ total m l f → (eqb r 0 ≡ clear s ls n) × Found s ls n v x
+  every_leaf m l f v x i r G h e = let j : i ≡ n = omega (arith, G.within) in rw (← j, e) (G.marked, (G.rights_made, G.causes_made))

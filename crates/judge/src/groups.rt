@@ -75,7 +75,7 @@ fn fill_direct(
     rights: &mut [u8],
     causes: &mut [u8],
 ) -> u64
-    requires n_in_bounds { (n * 18 ≤ length leaves.now) × (n ≤ length rights.old) × (6 * n + 2 ≤ length causes.old) }
+    requires room { (n * 18 ≤ length leaves.now) × (n ≤ length rights.old) × (6 * n + 2 ≤ length causes.old) }
     requires gives { Gives s (direct_at low.now flag.now never.now limits.now overlays.now low2.now flag2.now never2.now s2ap.now s.control.stage2 (overlaid s)) }
     ensures { (eqb result 0 ≡ clear s leaves.now n) × Found s leaves.now n rights.new causes.new }
 {
@@ -154,7 +154,7 @@ fn fill_indirect(
     rights: &mut [u8],
     causes: &mut [u8],
 ) -> u64
-    requires n_in_bounds { (n * 18 ≤ length leaves.now) × (n ≤ length rights.old) × (6 * n + 2 ≤ length causes.old) }
+    requires room { (n * 18 ≤ length leaves.now) × (n ≤ length rights.old) × (6 * n + 2 ≤ length causes.old) }
     requires gives { Gives s (indirect_at low.now state.now codes.now applies.now overlays.now low2.now flag2.now never2.now s2ap.now s.control.stage2 (overlaid s)) }
     ensures { (eqb result 0 ≡ clear s leaves.now n) × Found s leaves.now n rights.new causes.new }
 {
@@ -203,7 +203,7 @@ fn fill_off(
     rights: &mut [u8],
     causes: &mut [u8],
 ) -> u64
-    requires n_in_bounds { (n * 18 ≤ length leaves.now) × (n ≤ length rights.old) × (6 * n + 2 ≤ length causes.old) }
+    requires room { (n * 18 ≤ length leaves.now) × (n ≤ length rights.old) × (6 * n + 2 ≤ length causes.old) }
     requires gives { Gives s (off_at low2.now flag2.now never2.now s2ap.now s.control.stage2 s.control.two) }
     ensures { (eqb result 0 ≡ clear s leaves.now n) × Found s leaves.now n rights.new causes.new }
 {
@@ -242,9 +242,9 @@ fn direct_list(
     rights: &mut [u8],
     causes: &mut [u8],
 ) -> u64
-    requires n_in_bounds { (n * 18 ≤ length leaves.now) × (n ≤ length rights.old) × (6 * n + 2 ≤ length causes.old) × Tables s base.now slots.now stages.now memory.now }
+    requires room { (n * 18 ≤ length leaves.now) × (n ≤ length rights.old) × (6 * n + 2 ≤ length causes.old) × Tables s base.now slots.now stages.now memory.now }
     requires second { Second memory.now low2.now flag2.now never2.now s2ap.now }
-    requires stage1_value { (s.control.stage1 ≡ true) × (s.control.indirect ≡ false) }
+    requires mode { (s.control.stage1 ≡ true) × (s.control.indirect ≡ false) }
     ensures { (eqb result 0 ≡ clear s leaves.now n) × Found s leaves.now n rights.new causes.new }
 {
     let low = low_group(stages, memory, STATE1, levels_mask(s.control.two), ATTRINDX);
@@ -274,9 +274,9 @@ fn indirect_list(
     rights: &mut [u8],
     causes: &mut [u8],
 ) -> u64
-    requires n_in_bounds { (n * 18 ≤ length leaves.now) × (n ≤ length rights.old) × (6 * n + 2 ≤ length causes.old) × Tables s base.now slots.now stages.now memory.now }
+    requires room { (n * 18 ≤ length leaves.now) × (n ≤ length rights.old) × (6 * n + 2 ≤ length causes.old) × Tables s base.now slots.now stages.now memory.now }
     requires second { Second memory.now low2.now flag2.now never2.now s2ap.now }
-    requires stage1_value { (s.control.stage1 ≡ true) × (s.control.indirect ≡ true) }
+    requires mode { (s.control.stage1 ≡ true) × (s.control.indirect ≡ true) }
     ensures { (eqb result 0 ≡ clear s leaves.now n) × Found s leaves.now n rights.new causes.new }
 {
     let low = low_group(stages, memory, STATE1, levels_mask(s.control.two), ATTRINDX);

@@ -42,12 +42,12 @@ pub(crate) fn list_leaves(
     out: &mut [u8],
     causes: &mut [u8],
 ) -> Listed
-    requires leaves_in_bounds { (leaf_count leaves.now ≤ length rights.old) × (6 * leaf_count leaves.now + 2 ≤ length found.old) }
-    requires leaves_in_bounds_2 { (leaf_count leaves.now ≤ length out.old) × (6 * leaf_count leaves.now ≤ length causes.old) }
-    requires leaves_bound { (leaf_count leaves.now ≤ 2048) × (setup_check s.control ≡ Passes) }
-    ensures value { result ≡ (leaves_of s leaves.now out.old causes.old).answer }
-    ensures out_after { out.new ≡ (leaves_of s leaves.now out.old causes.old).out }
-    ensures causes_after { causes.new ≡ (leaves_of s leaves.now out.old causes.old).causes }
+    requires buffers { (leaf_count leaves.now ≤ length rights.old) × (6 * leaf_count leaves.now + 2 ≤ length found.old) }
+    requires room { (leaf_count leaves.now ≤ length out.old) × (6 * leaf_count leaves.now ≤ length causes.old) }
+    requires accepted { (leaf_count leaves.now ≤ 2048) × (setup_check s.control ≡ Passes) }
+    ensures answer { result ≡ (leaves_of s leaves.now out.old causes.old).answer }
+    ensures out { out.new ≡ (leaves_of s leaves.now out.old causes.old).out }
+    ensures causes { causes.new ≡ (leaves_of s leaves.now out.old causes.old).causes }
 {
     let n = leaves.len() / 18;
     let marks = fill_list(s, leaves, n, rights, found);

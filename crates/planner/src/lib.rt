@@ -60,8 +60,8 @@ fn plan_leaves(w: u32, on: bool, base: &[u16; 16], l: Level, leaves: &[u8]) -> P
 
 // The register of a level (0 privileged, 1 unprivileged) for a setup of 52 bytes and leaves of 18 bytes each.
 pub fn plan_level(setup: &[u8], level: u64, leaves: &[u8]) -> Plan
-    ensures value { result ≡ plan_of setup.now level leaves.now }
-    ensures planner_demands { PlannerDemands setup.now level leaves.now result }
+    ensures answer { result ≡ plan_of setup.now level leaves.now }
+    ensures demands { PlannerDemands setup.now level leaves.now result }
 {
     let WordsRead::Read(q) = records::setup::read_words(setup) else {
         return Plan::Refused {
@@ -83,8 +83,8 @@ pub fn plan_level(setup: &[u8], level: u64, leaves: &[u8]) -> Plan
 
 // The registers of both levels (request A5).
 pub fn plan_levels(setup: &[u8], leaves: &[u8]) -> Plans
-    ensures value { result ≡ both_of setup.now leaves.now }
-    ensures both_demands { BothDemands setup.now leaves.now result }
+    ensures answer { result ≡ both_of setup.now leaves.now }
+    ensures demands { BothDemands setup.now leaves.now result }
 {
     Plans {
         privileged: plan_level(setup, 0, leaves),

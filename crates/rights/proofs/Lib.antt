@@ -1,5 +1,6 @@
 pub mod AccessChecks
 pub mod Branches
+pub mod MadeTables
 pub mod Tables
 pub mod BaseMasks
 pub mod AnswerSteps

@@ -35,15 +35,15 @@ begun bytes lv ls q k x p r g e f =
 pub returns-in_default : goal.returns-in_default
 returns-in_default c =
     let m = met _ c.args.level c.args.leaves.now _ _ c.in_default.ensures refl in
-    record { value = m.0; planner_demands = m.1 }
+    record { answer = m.0; demands = m.1 }
 
 pub returns-in-Refused : goal.returns-in-Refused
 returns-in-Refused c =
     let m = begun _ _ _ _ _ _ _ c.in-Read.ensures c.read_control-c.ensures c.in-Refused.ensures refl in
-    record { value = m.0; planner_demands = m.1 }
+    record { answer = m.0; demands = m.1 }
 
 pub returns-in-Leaves : goal.returns-in-Leaves
 returns-in-Leaves c =
     let e = rw (c.bit_of-on.ensures, c.read_control-c.ensures) at c.plan_leaves.ensures in
     let m = begun _ _ _ _ _ _ _ c.in-Read.ensures c.read_control-c.ensures c.in-Leaves.ensures (e ∙ leaves_by _ _ _ c.base_table-base.ensures _) in
-    record { value = m.0; planner_demands = m.1 }
+    record { answer = m.0; demands = m.1 }

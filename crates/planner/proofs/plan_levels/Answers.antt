@@ -1,12 +1,17 @@
 -- Each level has its own plan, and so both meet the demands.
+use Rattle.std.proofs.Common.{◌≡◌, ap₂}
 use Rattle.planner.specs.Plan.{both_of}
+use Rattle.planner.specs.declared.plan.Plan.{Plan}
+use Rattle.planner.specs.declared.plan.Plans.{Plans}
 use Rattle.planner.proofs.Demands.{both-met}
 use Rattle.planner.proofs.plan_levels.Goals as goal
 
-pub returns-clause-value : goal.returns-clause-value
-unfolding both_of
-returns-clause-value c = rw (c.plan_level.ensures.value, c.plan_level-2.ensures.value)
+-- the two answers of a level each
+abbrev plans : Plan → Plan → Plans
+plans p u = record { privileged = p; unprivileged = u }
 
-pub returns-clause-both_demands : goal.returns-clause-both_demands
+pub returns : goal.returns
 unfolding both_of
-returns-clause-both_demands c = both-met _ _ _ (rw (c.plan_level.ensures.value, c.plan_level-2.ensures.value))
+returns c =
+    let e : plans c.plan_level.result c.plan_level-2.result ≡ both_of c.args.setup.now c.args.leaves.now = ap₂ plans c.plan_level.ensures.answer c.plan_level-2.ensures.answer in
+    record { answer = e; demands = both-met _ _ _ e }

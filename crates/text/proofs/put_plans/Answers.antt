@@ -20,7 +20,7 @@ unfolding plan_lines
 returns c =
     let w = placed-put _ _ _ _ _ (omega arith) (c.put_item-a.ensures.next, c.put_item-a.ensures.text) in
     let v = placed-put _ _ _ _ _ (omega (arith, w.next)) (c.put_item-c.ensures.next, c.put_item-c.ensures.text) in
-    rw (← c.plan_level.ensures.value, ← c.plan_level-2.ensures.value)
+    rw (← c.plan_level.ensures.answer, ← c.plan_level-2.ensures.answer)
     (then _ _ _ _ _ _ _ _ (omega arith) w
     (then _ _ _ _ _ _ _ _ (omega (arith, w.next)) c.put_plan-b.ensures.text
     (then _ _ _ _ _ _ _ _ (omega (arith, w.next)) v c.put_plan.ensures.text)))

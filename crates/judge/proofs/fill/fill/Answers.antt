@@ -1,41 +1,23 @@
--- One leaf more, and the end.
-use Rattle.std.proofs.Common.{◌≡◌, ◌≤◌, ◌<◌, ◌+◌, ◌*◌, length, refl, ap, ◌∙◌, arith, length-set}
-use Rattle.records.proofs.Halves.{one_entry}
+-- The law of a loop over the leaves, with the word of leaf `i`.
+use Rattle.std.proofs.Common.{◌≡◌, ap, ◌∙◌}
 use Rattle.records.specs.declared.leaf.Leaf.{Leaf}
-use Rattle.judge.specs.Mirror.Words.{rights_in, word_at}
-use Rattle.judge.proofs.Filled.{put-length, put_six, marks-are, word-is}
+use Rattle.judge.specs.Mirror.Words.{word_at}
+use Rattle.judge.proofs.Filled.{none, one_leaf, every_leaf, word-is}
 use Rattle.judge.proofs.fill.fill.Goals as goal
 
 pub loop-i-init : goal.loop-i-init
-loop-i-init c = record {
-  within = omega arith;
-  rights_kept = refl;
-  causes_kept = refl;
-  marked = refl;
-  rights_made = λ j h. absurd (omega arith);
-  causes_made = λ k h. absurd (omega arith);
-}
+loop-i-init c = none _ _ _ _ _
 
 pub loop-i-preserved : goal.loop-i-preserved
 loop-i-preserved c =
-    let l = c.loop-i in
     let a = c.args in
-    let n : l.i < a.n = c.loop-i-test.true in
-    let r : l.i < length l.rights = omega (arith, n, l.invariant.rights_kept, c.requires.1) in
-    let k : 6 * l.i + 8 ≤ length l.causes = omega (arith, n, l.invariant.causes_kept, c.requires.2) in
-    let w : c.known_word-w.result ≡ word_at a.s a.leaves.now l.i =
+    let i = c.loop-i.i in
+    let leaf = c.leaf_of-l.ensures in
+    let word : c.known_word-w.result ≡ word_at a.s a.leaves.now i =
     c.known_word-w.ensures
-    ∙ word-is a.s a.leaves.now a.base.now a.slots.now a.stages.now a.memory.now c.requires.3 l.i _ _ _ c.leaf_of-l.ensures c.is_known-known.ensures c.leaf_word.ensures in
-    record {
-      within = omega (arith, n);
-      rights_kept = simp length-set l.invariant.rights_kept;
-      causes_kept = ap length c.put.ensures ∙ put-length l.causes (6 * l.i) _ ∙ l.invariant.causes_kept;
-      marked = rw c.marks_in-marks.ensures
-          (marks-are a.s a.leaves.now l.i l.marks l.limits l.forbidden _ _ _ (ap (λ (f : Leaf). f.limits) c.leaf_of-l.ensures) (ap (λ (f : Leaf). f.forbidden) c.leaf_of-l.ensures) w l.invariant.marked);
-      rights_made = one_entry _ l.rights l.i r l.invariant.rights_made _ (ap rights_in w);
-      causes_made = rw c.put.ensures (put_six a.s a.leaves.now l.causes l.i _ k w l.invariant.causes_made);
-    }
+    ∙ word-is a.s a.leaves.now a.base.now a.slots.now a.stages.now a.memory.now c.requires.3 i _ _ _ leaf c.is_known-known.ensures c.leaf_word.ensures in
+    one_leaf _ _ _ _ _ _ _ _ _ _ i c.loop-i.invariant c.loop-i-test.true c.requires.1 c.requires.2 _ _ _ _ _ word
+    (ap (λ (f : Leaf). f.limits) leaf) (ap (λ (f : Leaf). f.forbidden) leaf) c.marks_in-marks.ensures c.put.ensures
 
 pub returns : goal.returns
-returns c = let l = c.loop-i in let e : l.i ≡ c.args.n = omega arith in
-    rw (← e, c.sum_up.ensures) (l.invariant.marked, (l.invariant.rights_made, l.invariant.causes_made))
+returns c = every_leaf _ _ _ _ _ _ _ _ _ _ _ _ c.loop-i.invariant c.loop-i-test.false c.sum_up.ensures

@@ -4,8 +4,8 @@ use Rattle.judge.proofs.groups.direct_list.Goals as goal
 
 pub fill_direct-requires-clause-gives : goal.fill_direct-requires-clause-gives
 fill_direct-requires-clause-gives c =
-    let t = c.requires.n_in_bounds.3 in
-    let mode = c.requires.stage1_value in
+    let t = c.requires.room.3 in
+    let mode = c.requires.mode in
     direct-gives c.args.s c.args.memory.now _ _ _ _ t.3 c.requires.second mode.0 _ _
     (rw (t.2, c.levels_mask.ensures) at c.low_group-low.ensures) (rw t.1 at c.slots_table-overlays.ensures) _ _ _
     (rw t.2 at c.flag_group-flag.ensures) (rw (t.2, t.0, mode.1) at c.never_group-never.ensures) (rw (t.2, t.0, mode.1) at c.limits_group-limits.ensures) mode.1

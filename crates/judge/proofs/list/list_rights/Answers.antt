@@ -16,113 +16,51 @@ follows : (b ls o c : List ℕ) (s : Setup) (x : Check) → read_setup b ≡ Rea
     → list_of b ls o c ≡ if_passes x (λ (n : ℕ). refuse n 0 o c) (leaves_of s ls o c)
 follows b ls o c s x p q = reads_as b ls o c _ p ∙ ap (λ (y : Check). if_passes y (λ (n : ℕ). refuse n 0 o c) (leaves_of s ls o c)) q
 
-pub returns-in_default-clause-answer : goal.returns-in_default-clause-answer
-returns-in_default-clause-answer c =
+pub returns-in_default : goal.returns-in_default
+returns-in_default c =
+    let a = c.args in
     let q = sym c.read_setup.ensures ∙ c.in_default.is in
-    (result c.args.setup.now c.args.leaves.now c.args.out.now c.args.causes.now _ (reads_as _ _ _ _ _ q ∙ ap (λ (k : ℕ). refuse k 0 c.args.out.now c.args.causes.now) (setup-13 _ _ q))).0
+    let m = result a.setup.now a.leaves.now a.out.now a.causes.now _ (reads_as _ _ _ _ _ q ∙ ap (λ (k : ℕ). refuse k 0 a.out.now a.causes.now) (setup-13 _ _ q)) in
+    record { answer = m.0; out = m.1.0; causes = m.1.1.0; demands = m.1.1.1 }
 
-pub returns-in_default-clause-out : goal.returns-in_default-clause-out
-returns-in_default-clause-out c =
-    let q = sym c.read_setup.ensures ∙ c.in_default.is in
-    (result c.args.setup.now c.args.leaves.now c.args.out.now c.args.causes.now _ (reads_as _ _ _ _ _ q ∙ ap (λ (k : ℕ). refuse k 0 c.args.out.now c.args.causes.now) (setup-13 _ _ q))).1.0
-
-pub returns-in_default-clause-causes : goal.returns-in_default-clause-causes
-returns-in_default-clause-causes c =
-    let q = sym c.read_setup.ensures ∙ c.in_default.is in
-    (result c.args.setup.now c.args.leaves.now c.args.out.now c.args.causes.now _ (reads_as _ _ _ _ _ q ∙ ap (λ (k : ℕ). refuse k 0 c.args.out.now c.args.causes.now) (setup-13 _ _ q))).1.1.0
-
-pub returns-in_default-clause-demands : goal.returns-in_default-clause-demands
-returns-in_default-clause-demands c =
-    let q = sym c.read_setup.ensures ∙ c.in_default.is in
-    (result c.args.setup.now c.args.leaves.now c.args.out.now c.args.causes.now _ (reads_as _ _ _ _ _ q ∙ ap (λ (k : ℕ). refuse k 0 c.args.out.now c.args.causes.now) (setup-13 _ _ q))).1.1.1
-
-pub returns-in_default-check-clause-answer : goal.returns-in_default-check-clause-answer
-returns-in_default-check-clause-answer c =
+pub returns-in_default-check : goal.returns-in_default-check
+returns-in_default-check c =
+    let a = c.args in
     let k = sym c.check_list-check.ensures ∙ c.in_default-check.is in
-    (result c.args.setup.now c.args.leaves.now c.args.out.now c.args.causes.now _
+    let m =
+    result a.setup.now a.leaves.now a.out.now a.causes.now _
     (follows _ _ _ _ c.in-Read.s _ (sym c.read_setup.ensures ∙ c.in-Read.is) k
-    ∙ ap (λ (n : ℕ). refuse n 0 c.args.out.now c.args.causes.now) (sym (c.number_of.ensures ∙ ap number_of c.in_default-check.is)))).0
+    ∙ ap (λ (n : ℕ). refuse n 0 a.out.now a.causes.now) (sym (c.number_of.ensures ∙ ap number_of c.in_default-check.is))) in
+    record { answer = m.0; out = m.1.0; causes = m.1.1.0; demands = m.1.1.1 }
 
-pub returns-in_default-check-clause-out : goal.returns-in_default-check-clause-out
-returns-in_default-check-clause-out c =
-    let k = sym c.check_list-check.ensures ∙ c.in_default-check.is in
-    (result c.args.setup.now c.args.leaves.now c.args.out.now c.args.causes.now _
-    (follows _ _ _ _ c.in-Read.s _ (sym c.read_setup.ensures ∙ c.in-Read.is) k
-    ∙ ap (λ (n : ℕ). refuse n 0 c.args.out.now c.args.causes.now) (sym (c.number_of.ensures ∙ ap number_of c.in_default-check.is)))).1.0
+-- what the call of `list_leaves` asks, for either pair of buffers
+pub list_leaves-requires : goal.list_leaves-requires
+list_leaves-requires c =
+    let h = fitting _ _ _ _ (sym c.check_list-check.ensures ∙ c.in-Passes.is) in
+    let s = c.if-leaves.true in
+    record { buffers = (omega (arith, s), omega (arith, s)); room = (h.roomy, h.caused); accepted = (h.few, h.accepted) }
 
-pub returns-in_default-check-clause-causes : goal.returns-in_default-check-clause-causes
-returns-in_default-check-clause-causes c =
-    let k = sym c.check_list-check.ensures ∙ c.in_default-check.is in
-    (result c.args.setup.now c.args.leaves.now c.args.out.now c.args.causes.now _
-    (follows _ _ _ _ c.in-Read.s _ (sym c.read_setup.ensures ∙ c.in-Read.is) k
-    ∙ ap (λ (n : ℕ). refuse n 0 c.args.out.now c.args.causes.now) (sym (c.number_of.ensures ∙ ap number_of c.in_default-check.is)))).1.1.0
+pub list_leaves-requires-2 : goal.list_leaves-requires-2
+list_leaves-requires-2 c =
+    let h = fitting _ _ _ _ (sym c.check_list-check.ensures ∙ c.in-Passes.is) in
+    record { buffers = (h.few, omega (arith, h.few)); room = (h.roomy, h.caused); accepted = (h.few, h.accepted) }
 
-pub returns-in_default-check-clause-demands : goal.returns-in_default-check-clause-demands
-returns-in_default-check-clause-demands c =
-    let k = sym c.check_list-check.ensures ∙ c.in_default-check.is in
-    (result c.args.setup.now c.args.leaves.now c.args.out.now c.args.causes.now _
-    (follows _ _ _ _ c.in-Read.s _ (sym c.read_setup.ensures ∙ c.in-Read.is) k
-    ∙ ap (λ (n : ℕ). refuse n 0 c.args.out.now c.args.causes.now) (sym (c.number_of.ensures ∙ ap number_of c.in_default-check.is)))).1.1.1
-
-pub list_leaves-requires-clause-leaves_in_bounds_2 : goal.list_leaves-requires-clause-leaves_in_bounds_2
-list_leaves-requires-clause-leaves_in_bounds_2 c = let h = fitting _ _ _ _ (sym c.check_list-check.ensures ∙ c.in-Passes.is) in (h.roomy, h.caused)
-
-pub list_leaves-requires-clause-leaves_bound : goal.list_leaves-requires-clause-leaves_bound
-list_leaves-requires-clause-leaves_bound c = let h = fitting _ _ _ _ (sym c.check_list-check.ensures ∙ c.in-Passes.is) in (h.few, h.accepted)
-
-pub list_leaves-requires-2-clause-leaves_in_bounds : goal.list_leaves-requires-2-clause-leaves_in_bounds
-list_leaves-requires-2-clause-leaves_in_bounds c = let h = fitting _ _ _ _ (sym c.check_list-check.ensures ∙ c.in-Passes.is) in (h.few, omega (arith, h.few))
-
-pub list_leaves-requires-2-clause-leaves_in_bounds_2 : goal.list_leaves-requires-2-clause-leaves_in_bounds_2
-list_leaves-requires-2-clause-leaves_in_bounds_2 c = let h = fitting _ _ _ _ (sym c.check_list-check.ensures ∙ c.in-Passes.is) in (h.roomy, h.caused)
-
-pub list_leaves-requires-2-clause-leaves_bound : goal.list_leaves-requires-2-clause-leaves_bound
-list_leaves-requires-2-clause-leaves_bound c = let h = fitting _ _ _ _ (sym c.check_list-check.ensures ∙ c.in-Passes.is) in (h.few, h.accepted)
-
-pub returns-then-leaves-clause-answer : goal.returns-then-leaves-clause-answer
-returns-then-leaves-clause-answer c =
-    let e = follows _ _ _ _ c.in-Read.s _ (sym c.read_setup.ensures ∙ c.in-Read.is) (sym c.check_list-check.ensures ∙ c.in-Passes.is) in
+pub returns-then-leaves : goal.returns-then-leaves
+returns-then-leaves c =
+    let a = c.args in
+    let e = sym (follows _ _ _ _ c.in-Read.s _ (sym c.read_setup.ensures ∙ c.in-Read.is) (sym c.check_list-check.ensures ∙ c.in-Passes.is)) in
     let x = c.list_leaves.ensures in
-    (met c.args.setup.now c.args.leaves.now c.args.out.now c.args.causes.now _ _ _ (x.value ∙ ap (λ (y : ListResult). y.answer) (sym e)) (x.out_after ∙ ap (λ (y : ListResult). y.out) (sym e)) (x.causes_after ∙ ap (λ (y : ListResult). y.causes) (sym e))).0
+    let m =
+    met a.setup.now a.leaves.now a.out.now a.causes.now _ _ _ (x.answer ∙ ap (λ (y : ListResult). y.answer) e) (x.out ∙ ap (λ (y : ListResult). y.out) e)
+    (x.causes ∙ ap (λ (y : ListResult). y.causes) e) in
+    record { answer = m.0; out = m.1.0; causes = m.1.1.0; demands = m.1.1.1 }
 
-pub returns-then-leaves-clause-out : goal.returns-then-leaves-clause-out
-returns-then-leaves-clause-out c =
-    let e = follows _ _ _ _ c.in-Read.s _ (sym c.read_setup.ensures ∙ c.in-Read.is) (sym c.check_list-check.ensures ∙ c.in-Passes.is) in
-    let x = c.list_leaves.ensures in
-    (met c.args.setup.now c.args.leaves.now c.args.out.now c.args.causes.now _ _ _ (x.value ∙ ap (λ (y : ListResult). y.answer) (sym e)) (x.out_after ∙ ap (λ (y : ListResult). y.out) (sym e)) (x.causes_after ∙ ap (λ (y : ListResult). y.causes) (sym e))).1.0
-
-pub returns-then-leaves-clause-causes : goal.returns-then-leaves-clause-causes
-returns-then-leaves-clause-causes c =
-    let e = follows _ _ _ _ c.in-Read.s _ (sym c.read_setup.ensures ∙ c.in-Read.is) (sym c.check_list-check.ensures ∙ c.in-Passes.is) in
-    let x = c.list_leaves.ensures in
-    (met c.args.setup.now c.args.leaves.now c.args.out.now c.args.causes.now _ _ _ (x.value ∙ ap (λ (y : ListResult). y.answer) (sym e)) (x.out_after ∙ ap (λ (y : ListResult). y.out) (sym e)) (x.causes_after ∙ ap (λ (y : ListResult). y.causes) (sym e))).1.1.0
-
-pub returns-then-leaves-clause-demands : goal.returns-then-leaves-clause-demands
-returns-then-leaves-clause-demands c =
-    let e = follows _ _ _ _ c.in-Read.s _ (sym c.read_setup.ensures ∙ c.in-Read.is) (sym c.check_list-check.ensures ∙ c.in-Passes.is) in
-    let x = c.list_leaves.ensures in
-    (met c.args.setup.now c.args.leaves.now c.args.out.now c.args.causes.now _ _ _ (x.value ∙ ap (λ (y : ListResult). y.answer) (sym e)) (x.out_after ∙ ap (λ (y : ListResult). y.out) (sym e)) (x.causes_after ∙ ap (λ (y : ListResult). y.causes) (sym e))).1.1.1
-
-pub returns-clause-answer : goal.returns-clause-answer
-returns-clause-answer c =
-    let e = follows _ _ _ _ c.in-Read.s _ (sym c.read_setup.ensures ∙ c.in-Read.is) (sym c.check_list-check.ensures ∙ c.in-Passes.is) in
+pub returns : goal.returns
+returns c =
+    let a = c.args in
+    let e = sym (follows _ _ _ _ c.in-Read.s _ (sym c.read_setup.ensures ∙ c.in-Read.is) (sym c.check_list-check.ensures ∙ c.in-Passes.is)) in
     let x = c.list_leaves-2.ensures in
-    (met c.args.setup.now c.args.leaves.now c.args.out.now c.args.causes.now _ _ _ (x.value ∙ ap (λ (y : ListResult). y.answer) (sym e)) (x.out_after ∙ ap (λ (y : ListResult). y.out) (sym e)) (x.causes_after ∙ ap (λ (y : ListResult). y.causes) (sym e))).0
-
-pub returns-clause-out : goal.returns-clause-out
-returns-clause-out c =
-    let e = follows _ _ _ _ c.in-Read.s _ (sym c.read_setup.ensures ∙ c.in-Read.is) (sym c.check_list-check.ensures ∙ c.in-Passes.is) in
-    let x = c.list_leaves-2.ensures in
-    (met c.args.setup.now c.args.leaves.now c.args.out.now c.args.causes.now _ _ _ (x.value ∙ ap (λ (y : ListResult). y.answer) (sym e)) (x.out_after ∙ ap (λ (y : ListResult). y.out) (sym e)) (x.causes_after ∙ ap (λ (y : ListResult). y.causes) (sym e))).1.0
-
-pub returns-clause-causes : goal.returns-clause-causes
-returns-clause-causes c =
-    let e = follows _ _ _ _ c.in-Read.s _ (sym c.read_setup.ensures ∙ c.in-Read.is) (sym c.check_list-check.ensures ∙ c.in-Passes.is) in
-    let x = c.list_leaves-2.ensures in
-    (met c.args.setup.now c.args.leaves.now c.args.out.now c.args.causes.now _ _ _ (x.value ∙ ap (λ (y : ListResult). y.answer) (sym e)) (x.out_after ∙ ap (λ (y : ListResult). y.out) (sym e)) (x.causes_after ∙ ap (λ (y : ListResult). y.causes) (sym e))).1.1.0
-
-pub returns-clause-demands : goal.returns-clause-demands
-returns-clause-demands c =
-    let e = follows _ _ _ _ c.in-Read.s _ (sym c.read_setup.ensures ∙ c.in-Read.is) (sym c.check_list-check.ensures ∙ c.in-Passes.is) in
-    let x = c.list_leaves-2.ensures in
-    (met c.args.setup.now c.args.leaves.now c.args.out.now c.args.causes.now _ _ _ (x.value ∙ ap (λ (y : ListResult). y.answer) (sym e)) (x.out_after ∙ ap (λ (y : ListResult). y.out) (sym e)) (x.causes_after ∙ ap (λ (y : ListResult). y.causes) (sym e))).1.1.1
+    let m =
+    met a.setup.now a.leaves.now a.out.now a.causes.now _ _ _ (x.answer ∙ ap (λ (y : ListResult). y.answer) e) (x.out ∙ ap (λ (y : ListResult). y.out) e)
+    (x.causes ∙ ap (λ (y : ListResult). y.causes) e) in
+    record { answer = m.0; out = m.1.0; causes = m.1.1.0; demands = m.1.1.1 }

@@ -2,14 +2,8 @@
 use Rattle.records.proofs.LeafFields.{kept, handed}
 use Rattle.records.proofs.mapfile.deliver.Goals as goal
 
-pub returns-then-leaves-end-clause-answer : goal.returns-then-leaves-end-clause-answer
-returns-then-leaves-end-clause-answer c = (kept _ _ _ c.requires.1 c.if-leaves-end.true).0
+pub returns-then-leaves-end : goal.returns-then-leaves-end
+returns-then-leaves-end c = let k = kept _ _ _ c.requires.1 c.if-leaves-end.true in record { answer = k.0; leaves = k.1 }
 
-pub returns-then-leaves-end-clause-leaves : goal.returns-then-leaves-end-clause-leaves
-returns-then-leaves-end-clause-leaves c = (kept _ _ _ c.requires.1 c.if-leaves-end.true).1
-
-pub returns-clause-answer : goal.returns-clause-answer
-returns-clause-answer c = (handed _ _ _ c.requires.1 c.if-leaves-end.false _ c.copy_from_slice.ensures.after).0
-
-pub returns-clause-leaves : goal.returns-clause-leaves
-returns-clause-leaves c = (handed _ _ _ c.requires.1 c.if-leaves-end.false _ c.copy_from_slice.ensures.after).1
+pub returns : goal.returns
+returns c = let h = handed _ _ _ c.requires.1 c.if-leaves-end.false _ c.copy_from_slice.ensures.after in record { answer = h.0; leaves = h.1 }

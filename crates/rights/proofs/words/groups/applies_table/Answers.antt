@@ -1,20 +1,13 @@
--- One entry more.
-use Rattle.std.proofs.Common.{refl, arith, length-set}
-use Rattle.records.proofs.Halves.{one_entry}
-use Rattle.rights.specs.Mirror.Groups.{applies_at}
+-- The law of a table.
+use Rattle.std.proofs.Common.{refl}
+use Rattle.rights.proofs.MadeTables.{table-none, table-more, table-all}
 use Rattle.rights.proofs.words.groups.applies_table.Goals as goal
 
 pub loop-k-init : goal.loop-k-init
-loop-k-init c = record { within = omega arith; size = refl; made = λ j h. absurd (omega arith) }
+loop-k-init c = table-none _ _ _ refl
 
 pub loop-k-preserved : goal.loop-k-preserved
-loop-k-preserved c =
-    let l = c.loop-k in
-    record {
-      within = omega arith;
-      size = simp length-set l.invariant.size;
-      made = one_entry (applies_at c.args.s) l.a l.k (omega arith) l.invariant.made _ c.applies_entry.ensures;
-    }
+loop-k-preserved c = table-more _ _ _ _ c.loop-k.invariant c.loop-k-test.true _ c.applies_entry.ensures
 
 pub returns : goal.returns
-returns c k h = c.loop-k.invariant.made k (omega arith)
+returns c = table-all _ _ _ _ c.loop-k.invariant c.loop-k-test.false

@@ -1,21 +1,13 @@
--- One entry more, in both halves.
-use Rattle.std.proofs.Common.{refl, ap, arith, length-set}
-use Rattle.records.proofs.Halves.{one_more}
-use Rattle.rights.specs.declared.words.groups.Pair.{Pair}
+-- The law of a group's table.
+use Rattle.std.proofs.Common.{refl}
+use Rattle.rights.proofs.MadeTables.{group-none, group-more, group-all}
 use Rattle.rights.proofs.words.groups.never_group.Goals as goal
 
 pub loop-k-init : goal.loop-k-init
-loop-k-init c = record { within = omega arith; size = refl; filled = λ j h. absurd (omega arith) }
+loop-k-init c = group-none _ _ _ refl
 
 pub loop-k-preserved : goal.loop-k-preserved
-loop-k-preserved c =
-    let l = c.loop-k in
-    let e = c.never_entry-p.ensures in
-    record {
-      within = omega arith;
-      size = simp length-set l.invariant.size;
-      filled = one_more 16 _ _ l.g l.k (omega arith) l.invariant.size l.invariant.filled _ _ (ap (λ (p : Pair). p.keeps) e) (ap (λ (p : Pair). p.takes) e);
-    }
+loop-k-preserved c = group-more _ _ _ _ c.loop-k.invariant c.loop-k-test.true _ c.never_entry-p.ensures
 
 pub returns : goal.returns
-returns c k h = c.loop-k.invariant.filled k (omega arith)
+returns c = group-all _ _ _ _ c.loop-k.invariant c.loop-k-test.false
