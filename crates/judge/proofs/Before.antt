@@ -162,5 +162,7 @@ same-list b ls o c h = go (read_setup b)
     room = rw (le-leb (6 * (length ls / 18)) (length c) h, and-true (leb (length ls / 18) (length o)))
 
     go : (x : SetupRead) → outcome (list.list_read x ls o c) ≡ list_read x ls o
-    go (setup.Read s) = rw room (leaves s (check_then (setup_check s.control) (check_if (not (fits (length ls) (length o))) 11)))
+    go (setup.Read s) =
+        leaves s (check_then (setup_check s.control) (check_if (not (list.fits (length ls) (length o) (length c))) 11))
+        ∙ ap (λ (t : Bool). if_passes (check_then (setup_check s.control) (check_if (not t) 11)) (λ (n : ℕ). refuse n 0 o) (leaves_of s ls o)) room
     go (setup.Refused k) = refl
