@@ -11,58 +11,58 @@ use lib.Dec.{ltb}
 use lib.ListN.{length, get_or}
 use borrow.Author.Tests.{ltb-true, ltb-false}
 use Rattle.records.proofs.Cases.{clash}
-use Rattle.records.specs.Values.{check_if, check_then, first_of}
-use Rattle.records.specs.declared.check.Check.{Check}
-use Rattle.records.specs.declared.check.Check.TheVariants.{Passes, Refused}
+use Rattle.std.specs.Prelude.{Ok, Err}
+use Rattle.records.specs.Values.{Check, passes, check_if, check_then, first_of}
+use Rattle.records.specs.declared.refusal.Refusal.{Refusal}
 
 -- a chain of checks that passes, and one that refuses
-pub both-pass : (a b : Check) → check_then a b ≡ Passes → (a ≡ Passes) × (b ≡ Passes)
-both-pass Passes b e = (refl, e)
-both-pass (Refused n) b e = clash (cc)
+pub both-pass : (a b : Check) → check_then a b ≡ passes → (a ≡ passes) × (b ≡ passes)
+both-pass (Ok u) b e = (refl, e)
+both-pass (Err n) b e = clash (cc)
 
-pub refused-by : {N : Type 0} (a b : Check) (k : ℕ) → (a ≡ Refused k → N) → (b ≡ Refused k → N) → check_then a b ≡ Refused k → N
-refused-by Passes b k f g e = g e
-refused-by (Refused n) b k f g e = f e
+pub refused-by : {N : Type 0} (a b : Check) (k : Refusal) → (a ≡ Err k → N) → (b ≡ Err k → N) → check_then a b ≡ Err k → N
+refused-by (Ok u) b k f g e = g e
+refused-by (Err n) b k f g e = f e
 
-pub each-passes : (R : ℕ → Check) (xs : List ℕ) → first_of R xs ≡ Passes → (k : ℕ) → k < length xs → R (get_or xs k 0) ≡ Passes
+pub each-passes : (R : ℕ → Check) (xs : List ℕ) → first_of R xs ≡ passes → (k : ℕ) → k < length xs → R (get_or xs k 0) ≡ passes
 each-passes R [] e k h = absurd (not-suc-le-zero h)
 each-passes R (a ∷ more) e zero h = (both-pass (R a) _ e).0
 each-passes R (a ∷ more) e (suc k) h = each-passes R more (both-pass (R a) _ e).1 k (le_of_suc-le-suc h)
 
 -- one check that refuses, and one that passes
-pub checked : (t : Bool) (n k : ℕ) → check_if t n ≡ Refused k → k ≡ n
+pub checked : (t : Bool) (n k : Refusal) → check_if t n ≡ Err k → k ≡ n
 checked true n k e = cc
 checked false n k e = clash (cc)
 
-pub passed : (t : Bool) (n : ℕ) → check_if (not t) n ≡ Passes → t ≡ true
+pub passed : (t : Bool) (n : Refusal) → check_if (not t) n ≡ passes → t ≡ true
 passed true n e = refl
 passed false n e = clash (cc)
 
 -- every check below n passes
 abbrev pub AllPass : (ℕ → Check) → ℕ → Type 0
-AllPass R n = (j : ℕ) → j < n → R j ≡ Passes
+AllPass R n = (j : ℕ) → j < n → R j ≡ passes
 
 -- check i refuses with k, and every one before it passes
-pub record FirstAt (R : ℕ → Check) (n k i : ℕ) : Type 0 where
+pub record FirstAt (R : ℕ → Check) (n : ℕ) (k : Refusal) (i : ℕ) : Type 0 where
   pub within : i < n
   pub before : AllPass R i
-  pub refuses : R i ≡ Refused k
+  pub refuses : R i ≡ Err k
 
-decided : (R : ℕ → Check) (n : ℕ) → AllPass R n ⊎ ((k : ℕ) × (i : ℕ) × FirstAt R n k i)
+decided : (R : ℕ → Check) (n : ℕ) → AllPass R n ⊎ ((k : Refusal) × (i : ℕ) × FirstAt R n k i)
 decided R zero = inl (λ j h. absurd (omega arith))
 decided R (suc n) = go (decided R n) (R n) refl
   where
-    last : AllPass R n → R n ≡ Passes → (j : ℕ) → (j ≡ n) ⊎ (j < n) → R j ≡ Passes
+    last : AllPass R n → R n ≡ passes → (j : ℕ) → (j ≡ n) ⊎ (j < n) → R j ≡ passes
     last a e j (inl p) = ap R p ∙ e
     last a e j (inr h) = a j h
 
-    go : AllPass R n ⊎ ((k : ℕ) × (i : ℕ) × FirstAt R n k i) → (x : Check) → R n ≡ x → AllPass R (suc n) ⊎ ((k : ℕ) × (i : ℕ) × FirstAt R (suc n) k i)
+    go : AllPass R n ⊎ ((k : Refusal) × (i : ℕ) × FirstAt R n k i) → (x : Check) → R n ≡ x → AllPass R (suc n) ⊎ ((k : Refusal) × (i : ℕ) × FirstAt R (suc n) k i)
     go (inr (k, i, f)) x e = inr (k, i, record { within = let h = f.within in omega arith; before = f.before; refuses = f.refuses })
-    go (inl a) (Refused k) e = inr (k, n, record { within = omega arith; before = a; refuses = e })
-    go (inl a) Passes e = inl (λ j h. last a e j (eq-or-lt_of_le (le_of_suc-le-suc h)))
+    go (inl a) (Err k) e = inr (k, n, record { within = omega arith; before = a; refuses = e })
+    go (inl a) (Ok u) e = inl (λ j h. last a e j (eq-or-lt_of_le (le_of_suc-le-suc h)))
 
 -- two first refusals are one
-pub same_first : (R : ℕ → Check) (k i m j : ℕ) → AllPass R i → R i ≡ Refused k → AllPass R j → R j ≡ Refused m → (k ≡ m) × (i ≡ j)
+pub same_first : (R : ℕ → Check) (k : Refusal) (i : ℕ) (m : Refusal) (j : ℕ) → AllPass R i → R i ≡ Err k → AllPass R j → R j ≡ Err m → (k ≡ m) × (i ≡ j)
 same_first R k i m j h x p y = go (ltb i j) refl (ltb j i) refl
   where
     go : (t : Bool) → ltb i j ≡ t → (u : Bool) → ltb j i ≡ u → (k ≡ m) × (i ≡ j)
@@ -74,14 +74,14 @@ same_first R k i m j h x p y = go (ltb i j) refl (ltb j i) refl
 
 -- what may come before checks 0 to n - 1, and these: the first refusal is before them or at one of them, or there is none
 pub data Ways (x : Check) (R : ℕ → Check) (n : ℕ) : Type 0 where
-  refused-before : (k : ℕ) → x ≡ Refused k → Ways x R n
-  refused-at : (k i : ℕ) → x ≡ Passes → FirstAt R n k i → Ways x R n
-  none-refused : x ≡ Passes → AllPass R n → Ways x R n
+  refused-before : (k : Refusal) → x ≡ Err k → Ways x R n
+  refused-at : (k : Refusal) (i : ℕ) → x ≡ passes → FirstAt R n k i → Ways x R n
+  none-refused : x ≡ passes → AllPass R n → Ways x R n
 
 pub ways : (x : Check) (R : ℕ → Check) (n : ℕ) → Ways x R n
-ways (Refused k) R n = refused-before k refl
-ways Passes R n = go (decided R n)
+ways (Err k) R n = refused-before k refl
+ways (Ok u) R n = go (decided R n)
   where
-    go : AllPass R n ⊎ ((k : ℕ) × (i : ℕ) × FirstAt R n k i) → Ways Passes R n
+    go : AllPass R n ⊎ ((k : Refusal) × (i : ℕ) × FirstAt R n k i) → Ways passes R n
     go (inl h) = none-refused refl h
     go (inr (k, i, h)) = refused-at k i refl h

@@ -13,15 +13,10 @@ use borrow.Author.Tests.{leb-true, le-leb, lt-leb}
 use Rattle.records.proofs.Cases.{both_hold}
 use Rattle.records.proofs.Copies.{copied}
 use Rattle.records.specs.Mirror.LeafFields.{leaves_in, delivered}
-use Rattle.records.specs.declared.mapfile.FileRead.TheVariants.{Map, Refused}
-use Rattle.records.specs.declared.mapfile.FileRead.{FileRead}
-use Rattle.records.specs.declared.mapfile.Fields.{Fields}
-use Rattle.records.specs.declared.mapfile.Fields.TheVariants.{Whole, IllFormed}
+use Rattle.std.specs.Prelude.{Result, Ok, Err, Option, Some, None}
+use Rattle.records.specs.declared.refusal.Refusal.{Refusal}
+use Rattle.records.specs.declared.refusal.Refusal.TheVariants.{ListLength, IllFormed}
 use Rattle.records.specs.MapFile.{begins_with, value, rest, Leaves, leaves, ill_formed, prepend, leaves_of, file_of, FileResult, read_file}
-
-pub prepend-none : (x : Leaves) → prepend 0 [] x ≡ x
-prepend-none (leaves m c) = rw zero-add
-prepend-none ill_formed = refl
 
 prepend-twice : (n m : ℕ) (a b : List ℕ) (x : Leaves) → prepend n a (prepend m b x) ≡ prepend (n + m) (a ++ b) x
 prepend-twice n m a b (leaves k c) = rw (add_assoc, append_assoc)
@@ -121,33 +116,33 @@ pub counted : (m : ℕ) (s : List ℕ) (n : ℕ) (b : List ℕ) → leaves_of m 
 counted m s n b e = rw e at (counts m s)
 
 -- the answer and what the lent buffer holds afterwards are what a definition says
-abbrev Gives : FileResult → FileRead → List ℕ → Type 0
+abbrev Gives : FileResult → Result ℕ Refusal → List ℕ → Type 0
 Gives w x p = (x ≡ w.answer) × (p ≡ w.leaves)
 
 -- a file that does not begin with a setup
-pub read-other : (s b : List ℕ) → begins_with 1 52 s ≡ false → Gives (read_file s b) (Refused 13) b
+pub read-other : (s b : List ℕ) → begins_with 1 52 s ≡ false → Gives (read_file s b) (Err IllFormed) b
 unfolding read_file file_of
 read-other s b e = rw e (refl, refl)
 
 -- a file that begins with one, by the answer r of `leaf_fields`, which leaves v in its buffer
-module _ (s v : List ℕ) (r : Fields) (e : begins_with 1 52 s ≡ true) (f : leaves_of 2048 (rest 52 s) ≡ leaves_in r v) where
-  pub read-ill : (b : List ℕ) → r ≡ IllFormed → Gives (read_file s b) (Refused 13) b
+module _ (s v : List ℕ) (r : Option ℕ) (e : begins_with 1 52 s ≡ true) (f : leaves_of 2048 (rest 52 s) ≡ leaves_in r v) where
+  pub read-ill : (b : List ℕ) → r ≡ None → Gives (read_file s b) (Err IllFormed) b
   unfolding read_file file_of
   read-ill b g = rw (e, f, g) (refl, refl)
 
-  pub read_whole : (b p : List ℕ) (x : FileRead) (n : ℕ) → r ≡ Whole n → Gives (delivered v n b) x p → Gives (read_file s b) x p
+  pub read_whole : (b p : List ℕ) (x : Result ℕ Refusal) (n : ℕ) → r ≡ Some n → Gives (delivered v n b) x p → Gives (read_file s b) x p
   unfolding read_file file_of delivered
   read_whole b p x n g h = rw (e, f, g) h
 
-  pub few : (n : ℕ) → r ≡ Whole n → n ≤ 2048
+  pub few : (n : ℕ) → r ≡ Some n → n ≤ 2048
   few n g = (counted 2048 (rest 52 s) n (take (n * 18) v) (rw g at f)).0
 
 -- what is handed over where the lent buffer is long enough for the n leaves that v begins with, and where it is not
 module _ (v b : List ℕ) (n : ℕ) (h : n * 18 ≤ length v) where
-  pub handed : n * 18 ≤ length b → (x : List ℕ) → x ≡ take (n * 18) v → Gives (delivered v n b) (Map n) (x ++ drop (n * 18) b)
+  pub handed : n * 18 ≤ length b → (x : List ℕ) → x ≡ take (n * 18) v → Gives (delivered v n b) (Ok n) (x ++ drop (n * 18) b)
   unfolding delivered
   handed e x q = rw (copied (n * 18) x v b h q, length-take-le (n * 18) v h, le-leb (n * 18) (length b) e) (refl, refl)
 
-  pub kept : length b < n * 18 → Gives (delivered v n b) (Refused 11) b
+  pub kept : length b < n * 18 → Gives (delivered v n b) (Err ListLength) b
   unfolding delivered
   kept e = rw (length-take-le (n * 18) v h, lt-leb (n * 18) (length b) e) (refl, refl)

@@ -1,9 +1,7 @@
 -- Document 01, 'Setup and leaf records': access numbers, which the forbidden bits agree with; and sets of accesses, which both stages grant.
 -- Assumes nothing.
-use Rattle.std.specs.Prelude.{ℕ, ◌+◌, ◌*◌, ◌/◌, ◌%◌, ◌^◌, List, [], ◌∷◌, Bool, cond, leb, get_or}
+use Rattle.std.specs.Prelude.{ℕ, ◌+◌, ◌*◌, ◌/◌, ◌%◌, ◌^◌, List, [], ◌∷◌, Bool, cond, leb, get_or, Option, Some, None}
 use Rattle.records.specs.declared.access.Access.{Access}
-use Rattle.records.specs.declared.access.AccessRead.{AccessRead}
-use Rattle.records.specs.declared.access.AccessRead.TheVariants as read
 use Rattle.records.specs.declared.access.Level.{Level}
 use Rattle.records.specs.declared.access.Level.TheVariants.{Privileged, Unprivileged}
 use Rattle.records.specs.declared.access.LevelRights.{LevelRights}
@@ -37,8 +35,8 @@ access_number l Write = first_access l + 1
 access_number l Execute = first_access l + 2
 
 -- no access has a number above 5
-unfoldable pub read_access : ℕ → AccessRead
-read_access n = cond (leb n 5) (read.Read (access_at n)) read.Unknown
+unfoldable pub read_access : ℕ → Option Access
+read_access n = cond (leb n 5) (Some (access_at n)) None
 
 -- the six rights, in the order of their accesses' numbers
 abbrev pub six : Bool → Bool → Bool → Bool → Bool → Bool → Rights

@@ -1,17 +1,17 @@
 -- Document 01, 'Setup and leaf records': a leaf of 18 bytes; and lists of leaves, up to 2,048. Assumes nothing.
-use Rattle.std.specs.Prelude.{ℕ, ◌*◌, ◌/◌, ◌%◌, List, Bool, cond, ◌&&◌, eqb, leb, length, take, drop}
+use Rattle.std.specs.Prelude.{ℕ, ◌*◌, ◌/◌, ◌%◌, List, Bool, cond, ◌&&◌, eqb, leb, length, take, drop, Result, Ok, Err}
 use Rattle.records.specs.Bytes.{byte_at, le64}
 use Rattle.records.specs.declared.leaf.Leaf.{Leaf}
-use Rattle.records.specs.declared.leaf.LeafRead.{LeafRead}
-use Rattle.records.specs.declared.leaf.LeafRead.TheVariants.{Read, Refused}
+use Rattle.records.specs.declared.refusal.Refusal.{Refusal}
+use Rattle.records.specs.declared.refusal.Refusal.TheVariants.{IllFormed}
 
 -- the leaf of 18 bytes: stage 1 descriptor, stage 2 descriptor, limits byte, forbidden byte
 unfoldable pub leaf_of : List ℕ → Leaf
 leaf_of s = record { stage1 = le64 s 0; stage2 = le64 s 8; limits = byte_at s 16; forbidden = byte_at s 17 }
 
 -- refusal 13 for a single leaf: it is not 18 bytes long
-unfoldable pub read_leaf : List ℕ → LeafRead
-read_leaf s = cond (eqb (length s) 18) (Read (leaf_of s)) (Refused 13)
+unfoldable pub read_leaf : List ℕ → Result Leaf Refusal
+read_leaf s = cond (eqb (length s) 18) (Ok (leaf_of s)) (Err IllFormed)
 
 -- a list of leaves, one after the other: how many there are, the bytes of leaf i, and leaf i
 abbrev pub leaf_count : List ℕ → ℕ

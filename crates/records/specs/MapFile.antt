@@ -1,10 +1,10 @@
 -- Document 01, 'File, program, host': a file is fields, a one-byte tag, a two-byte length and a value; first exactly one tag 1
 -- (52 bytes), then 0 to 2,048 of tag 2 (18 bytes), and all else gives 13. Assumes nothing.
-use Rattle.std.specs.Prelude.{ℕ, zero, suc, ◌+◌, List, [], ◌∷◌, ◌++◌, Bool, cond, ◌&&◌, eqb, leb, length, take, drop}
+use Rattle.std.specs.Prelude.{ℕ, zero, suc, ◌+◌, List, [], ◌∷◌, ◌++◌, Bool, cond, ◌&&◌, eqb, leb, length, take, drop, Result, Ok, Err}
 use Rattle.records.specs.Bytes.{byte_at, le16, over}
-use Rattle.records.specs.Values.{Values, refusal, with_count}
-use Rattle.records.specs.declared.mapfile.FileRead.{FileRead}
-use Rattle.records.specs.declared.mapfile.FileRead.TheVariants.{Map, Refused}
+use Rattle.records.specs.Values.{Values, refusal, refusal_number, with_count}
+use Rattle.records.specs.declared.refusal.Refusal.{Refusal}
+use Rattle.records.specs.declared.refusal.Refusal.TheVariants.{ListLength, IllFormed}
 
 -- whether s begins with a whole field of this tag and this length
 unfoldable pub begins_with : ℕ → ℕ → List ℕ → Bool
@@ -46,20 +46,20 @@ setup_in s = cond (leb 55 (length s)) (value 52 s) []
 -- What reading the file s gives, where a buffer that holds b is lent for the leaves' bytes: the answer, and what the buffer holds
 -- afterwards. A buffer too short gives 11, as a list's output does. A refusal changes no lent byte.
 pub record FileResult : Type 0 where
-  pub answer : FileRead
+  pub answer : Result ℕ Refusal
   pub leaves : List ℕ
 
 -- the paper's number and values of the answer
-abbrev pub file_values : FileRead → Values
-file_values (Map n) = with_count n
-file_values (Refused k) = refusal k 0
+abbrev pub file_values : Result ℕ Refusal → Values
+file_values (Ok n) = with_count n
+file_values (Err r) = refusal (refusal_number r) 0
 
-abbrev pub refuse : ℕ → List ℕ → FileResult
-refuse n b = record { answer = Refused n; leaves = b }
+abbrev pub refuse : Refusal → List ℕ → FileResult
+refuse r b = record { answer = Err r; leaves = b }
 
 abbrev pub result_of : Leaves → List ℕ → FileResult
-result_of ill_formed b = refuse 13 b
-result_of (leaves n ls) b = cond (leb (length ls) (length b)) (record { answer = Map n; leaves = over ls b }) (refuse 11 b)
+result_of ill_formed b = refuse IllFormed b
+result_of (leaves n ls) b = cond (leb (length ls) (length b)) (record { answer = Ok n; leaves = over ls b }) (refuse ListLength b)
 
 unfoldable pub read_file : List ℕ → List ℕ → FileResult
 read_file s b = result_of (file_of s) b

@@ -1,18 +1,15 @@
 -- Document 01, 'Setup and leaf records', first paragraph: a setup of 52 bytes. Assumes nothing.
-use Rattle.std.specs.Prelude.{ℕ, ◌*◌, ◌%◌, ◌^◌, List, Bool, cond, eqb, leb, length}
+use Rattle.std.specs.Prelude.{ℕ, ◌*◌, ◌%◌, ◌^◌, List, Bool, cond, eqb, leb, length, Result, Ok, Err}
 use Rattle.records.specs.Bits.{bit, field}
 use Rattle.records.specs.Bytes.{le32, le64}
 use Rattle.records.specs.declared.access.Level.{Level}
 use Rattle.records.specs.declared.access.Level.TheVariants.{Privileged, Unprivileged}
+use Rattle.records.specs.declared.refusal.Refusal.{Refusal}
+use Rattle.records.specs.declared.refusal.Refusal.TheVariants.{IllFormed}
 use Rattle.records.specs.declared.setup.Control.{Control}
-use Rattle.records.specs.declared.setup.LevelBits.{LevelBits}
-use Rattle.records.specs.declared.setup.LevelRegisters.{LevelRegisters}
+use Rattle.records.specs.declared.setup.PerLevel.{PerLevel}
 use Rattle.records.specs.declared.setup.Setup.{Setup}
-use Rattle.records.specs.declared.setup.SetupRead.{SetupRead}
-use Rattle.records.specs.declared.setup.SetupRead.TheVariants.{Read, Refused}
 use Rattle.records.specs.declared.setup.Words.{Words}
-use Rattle.records.specs.declared.setup.WordsRead.{WordsRead}
-use Rattle.records.specs.declared.setup.WordsRead.TheVariants as words
 
 -- 52 bytes: the control word, then MAIR, MAIR2, PIR privileged and unprivileged, POR privileged and unprivileged
 unfoldable pub words_of : List ℕ → Words
@@ -51,20 +48,16 @@ unfoldable pub setup_of : List ℕ → Setup
 setup_of s = setup_from (words_of s)
 
 -- refusal 13 for a setup: it is not 52 bytes long; for its words, and for the setup
-unfoldable pub read_words : List ℕ → WordsRead
-read_words s = cond (eqb (length s) 52) (words.Read (words_of s)) (words.Refused 13)
+unfoldable pub read_words : List ℕ → Result Words Refusal
+read_words s = cond (eqb (length s) 52) (Ok (words_of s)) (Err IllFormed)
 
-unfoldable pub read_setup : List ℕ → SetupRead
-read_setup s = cond (eqb (length s) 52) (Read (setup_of s)) (Refused 13)
+unfoldable pub read_setup : List ℕ → Result Setup Refusal
+read_setup s = cond (eqb (length s) 52) (Ok (setup_of s)) (Err IllFormed)
 
--- the bit and the register of a level
-abbrev pub bit_of : LevelBits → Level → Bool
-bit_of b Privileged = b.privileged
-bit_of b Unprivileged = b.unprivileged
-
-abbrev pub register_of : LevelRegisters → Level → ℕ
-register_of r Privileged = r.privileged
-register_of r Unprivileged = r.unprivileged
+-- that of a level: its bit, its register
+abbrev pub of_level : {A : Type 0} → PerLevel A → Level → A
+of_level r Privileged = r.privileged
+of_level r Unprivileged = r.unprivileged
 
 -- the byte at AttrIndx[2:0] of MAIR or MAIR2, which have eight
 abbrev pub byte_in : ℕ → ℕ → ℕ

@@ -1,36 +1,62 @@
 -- Document 01, 'Numbers for no', 'the first that applies is the answer', and 'a definition gives this paper's number and values for each of its
 -- cases': checks that give a refusal's number and no fault, and the values of an answer. Cited by the contracts of every layer. Assumes nothing.
-use Rattle.std.specs.Prelude.{ℕ, Bool, cond, not, List, [], ◌∷◌, eqb, length}
-use Rattle.records.specs.declared.check.Check.{Check}
-use Rattle.records.specs.declared.check.Check.TheVariants.{Passes, Refused}
+use Rattle.std.specs.Prelude.{ℕ, Bool, cond, not, List, [], ◌∷◌, eqb, length, Result, Ok, Err, ⊤}
+use Rattle.records.specs.declared.refusal.LeafRefusal.{LeafRefusal}
+use Rattle.records.specs.declared.refusal.Refusal.{Refusal}
+use Rattle.records.specs.declared.refusal.Refusal.TheVariants.{ControlBits, Clash, WxnOrPan, UnknownAccess, LeafBits, ReservedCode, Unjudged, MemoryCode, ReservedSh, NotSeparable, ListLength, OverlayOff, IllFormed}
 
--- a refusal's number where something is bad
-abbrev pub check_if : Bool → ℕ → Check
-check_if bad n = cond bad (Refused n) Passes
+-- the paper's numbers
+abbrev pub refusal_number : Refusal → ℕ
+refusal_number ControlBits = 1
+refusal_number Clash = 2
+refusal_number WxnOrPan = 3
+refusal_number UnknownAccess = 4
+refusal_number LeafBits = 5
+refusal_number ReservedCode = 6
+refusal_number Unjudged = 7
+refusal_number MemoryCode = 8
+refusal_number ReservedSh = 9
+refusal_number NotSeparable = 10
+refusal_number ListLength = 11
+refusal_number OverlayOff = 12
+refusal_number IllFormed = 13
+
+-- a list's refusal; and one with no leaf at fault, whose index is 0
+abbrev pub at_leaf : Refusal → ℕ → LeafRefusal
+at_leaf r i = record { refusal = r; leaf = i }
+
+abbrev pub unplaced : Refusal → LeafRefusal
+unplaced r = at_leaf r 0
+
+-- a check that gives no fault: it passes, or refuses
+abbrev pub Check : Type 0
+Check = Result ⊤ Refusal
+
+abbrev pub passes : Check
+passes = Ok tt
+
+-- a refusal where something is bad
+abbrev pub check_if : Bool → Refusal → Check
+check_if bad r = cond bad (Err r) passes
 
 -- 13: a setup or leaf that is not n bytes
 abbrev pub length_check : List ℕ → ℕ → Check
-length_check b n = check_if (not (eqb (length b) n)) 13
+length_check b n = check_if (not (eqb (length b) n)) IllFormed
 
 -- a check, and the one that follows it where it passes
 abbrev pub check_then : Check → Check → Check
-check_then Passes b = b
-check_then (Refused n) b = Refused n
+check_then (Ok u) b = b
+check_then (Err r) b = Err r
 
 -- the first refusal among the checks of these numbers, in their order
 abbrev pub first_of : (ℕ → Check) → List ℕ → Check
-first_of f [] = Passes
+first_of f [] = passes
 first_of f (a ∷ more) = check_then (f a) (first_of f more)
 
--- the number of a check's refusal, 0 where it passes
-abbrev pub number_of : Check → ℕ
-number_of Passes = 0
-number_of (Refused n) = n
-
--- what is answered where a check passes, or by the number of its refusal
-abbrev pub if_passes : {A : Type 0} → Check → (ℕ → A) → A → A
-if_passes Passes refuse x = x
-if_passes (Refused n) refuse x = refuse n
+-- what is answered where a check passes, or by its refusal
+abbrev pub if_passes : {A : Type 0} → Check → (Refusal → A) → A → A
+if_passes (Ok u) refuse x = x
+if_passes (Err r) refuse x = refuse r
 
 -- The values of an answer, 0 where the paper says 0: a refusal's number and leaf; a fault's stage, kind and cause; an allowed access's byte and SH; a
 -- leaf's rights; how many leaves a list or a file has; a register.

@@ -1,15 +1,15 @@
 // The six accesses by number, and sets of them (document 01, 'Setup and leaf records'). Part of the record layer. No public function has a
 // `requires`.
 ghost use Rattle.std.specs.Prelude.{◌≡◌, ◌<◌};
-ghost use Rattle.records.specs.Access.{access_at, read_access, level_in, has_right, has, bits_in};
+ghost use Rattle.records.specs.Access.{read_access, level_in, has_right, has, bits_in};
 
-#[derive(Clone, Copy)]
+#[derive(Clone, Copy, PartialEq, Eq, Debug)]
 pub enum Level {
     Privileged,
     Unprivileged,
 }
 
-#[derive(Clone, Copy)]
+#[derive(Clone, Copy, PartialEq, Eq, Debug)]
 pub enum Right {
     Read,
     Write,
@@ -21,13 +21,6 @@ pub enum Right {
 pub struct Access {
     pub level: Level,
     pub right: Right,
-}
-
-// An access, or a number that no access has.
-#[derive(Clone, Copy)]
-pub enum AccessRead {
-    Read(Access),
-    Unknown,
 }
 
 // The six rights: read, write and execute, privileged and unprivileged.
@@ -49,43 +42,23 @@ pub struct LevelRights {
     pub execute: bool,
 }
 
-// Accesses 0 to 2 are privileged.
-fn level_of(n: u64) -> Level
-    requires { n < 6 }
-    ensures { result ≡ (access_at n).level }
-{
-    if n < 3 {
-        return Level::Privileged;
-    }
-    Level::Unprivileged
-}
-
-// Read, write, execute in turn.
-fn right_of(n: u64) -> Right
-    requires { n < 6 }
-    ensures { result ≡ (access_at n).right }
-{
-    let k = n % 3;
-    if k == 0 {
-        return Right::Read;
-    }
-    if k == 1 {
-        return Right::Write;
-    }
-    Right::Execute
-}
-
-// The access of a number.
+// The access of a number, if one has it.
 #[tactic(auto, unfolding(crate::specs::Access::read_access))]
-pub fn read_access(n: u64) -> AccessRead
+pub fn read_access(n: u64) -> Option<Access>
     ensures { result ≡ read_access n }
 {
-    if n < 6 {
-        let level = level_of(n);
-        let right = right_of(n);
-        return AccessRead::Read(Access { level, right });
-    }
-    AccessRead::Unknown
+    let level = if n < 3 {
+        Level::Privileged
+    } else {
+        Level::Unprivileged
+    };
+    let right = match n {
+        0 | 3 => Right::Read,
+        1 | 4 => Right::Write,
+        2 | 5 => Right::Execute,
+        _ => return None,
+    };
+    Some(Access { level, right })
 }
 
 // The rights of a level among the six.

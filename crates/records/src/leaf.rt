@@ -3,6 +3,7 @@ ghost use Rattle.std.specs.Prelude.{◌≡◌};
 ghost use Rattle.records.specs.Leaf.{read_leaf};
 
 use crate::number::word;
+use crate::refusal::Refusal;
 
 #[derive(Clone, Copy)]
 pub struct Leaf {
@@ -12,22 +13,15 @@ pub struct Leaf {
     pub forbidden: u8,
 }
 
-// A leaf, or a refusal's number.
-#[derive(Clone, Copy)]
-pub enum LeafRead {
-    Read(Leaf),
-    Refused(u8),
-}
-
 // The leaf of 18 bytes, or 13.
 #[tactic(auto, unfolding(crate::specs::Leaf::read_leaf, crate::specs::Leaf::leaf_of))]
-pub fn read_leaf(s: &[u8]) -> LeafRead
+pub fn read_leaf(s: &[u8]) -> Result<Leaf, Refusal>
     ensures { result ≡ read_leaf s.now }
 {
     if s.len() != 18 {
-        return LeafRead::Refused(13);
+        return Err(Refusal::IllFormed);
     }
-    LeafRead::Read(Leaf {
+    Ok(Leaf {
         stage1: word(s, 0),
         stage2: word(s, 8),
         limits: s[16],

@@ -6,9 +6,9 @@
 #![tactic(auto)]
 
 pub mod access;
-pub mod check;
 pub mod descriptor;
 pub mod leaf;
 pub mod mapfile;
 pub mod number;
+pub mod refusal;
 pub mod setup;

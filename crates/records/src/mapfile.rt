@@ -5,20 +5,7 @@ ghost use Rattle.records.specs.MapFile.{begins_with, leaves_of, read_file, setup
 ghost use Rattle.records.specs.Mirror.LeafFields.{leaves_in, delivered};
 
 use crate::number::short;
-
-// The number of leaves of a map file, or a refusal's number.
-#[derive(Clone, Copy)]
-pub enum FileRead {
-    Map(usize),
-    Refused(u8),
-}
-
-// What was found from the first leaf field on: whole leaf fields, or something else.
-#[derive(Clone, Copy)]
-enum Fields {
-    Whole(usize),
-    IllFormed,
-}
+use crate::refusal::Refusal;
 
 // Whether a whole field with this tag and length begins at index `at`.
 #[tactic(auto, unfolding(crate::specs::MapFile::begins_with))]
@@ -32,8 +19,9 @@ fn begins_with(s: &[u8], at: usize, tag: u8, len: usize) -> bool
     (s[at] == tag) & (short(s, at + 1) == (len as u64))
 }
 
-// Puts the values of the leaf fields, which begin at index 55, one after the other at the start of `values`.
-fn leaf_fields(file: &[u8], values: &mut [u8]) -> Fields
+// Puts the values of the leaf fields, which begin at index 55, one after the other at the start of `values`, and answers how many there are, if nothing else
+// is there.
+fn leaf_fields(file: &[u8], values: &mut [u8]) -> Option<usize>
     requires { (55 ≤ length file.now) × (36864 ≤ length values.old) }
     ensures { leaves_of 2048 (drop 55 file.now) ≡ leaves_in result values.new }
 {
@@ -41,7 +29,7 @@ fn leaf_fields(file: &[u8], values: &mut [u8]) -> Fields
     let mut at: usize = 55;
     while at < file.len() {
         if n == 2048 {
-            return Fields::IllFormed; // one leaf field too many
+            return None; // one leaf field too many
         }
         if begins_with(file, at, 2, 18) {
             let from = at + 3;
@@ -51,40 +39,40 @@ fn leaf_fields(file: &[u8], values: &mut [u8]) -> Fields
             at = next;
             n += 1;
         } else {
-            return Fields::IllFormed; // no whole leaf field
+            return None; // no whole leaf field
         }
     }
-    Fields::Whole(n)
+    Some(n)
 }
 
 // Hands over the `n` leaves that `values` begins with, where the lent buffer is long enough.
-fn deliver(values: &[u8], n: usize, leaves: &mut [u8]) -> FileRead
+fn deliver(values: &[u8], n: usize, leaves: &mut [u8]) -> Result<usize, Refusal>
     requires { (n ≤ 2048) × (n * 18 ≤ length values.now) }
     ensures answer { result ≡ (delivered values.now n leaves.old).answer }
     ensures leaves { leaves.new ≡ (delivered values.now n leaves.old).leaves }
 {
     let end = n * 18;
     if leaves.len() < end {
-        return FileRead::Refused(11);
+        return Err(Refusal::ListLength);
     }
     leaves[..end].copy_from_slice(&values[..end]);
-    FileRead::Map(n)
+    Ok(n)
 }
 
 // Reads a map file: its leaves' bytes, one leaf after the other, go to the start of `leaves`; later bytes are unchanged. One pass
 // over the file.
-pub fn read_file(file: &[u8], leaves: &mut [u8]) -> FileRead
+pub fn read_file(file: &[u8], leaves: &mut [u8]) -> Result<usize, Refusal>
     ensures answer { result ≡ (read_file file.now leaves.old).answer }
     ensures leaves { leaves.new ≡ (read_file file.now leaves.old).leaves }
 {
-    if begins_with(file, 0, 1, 52) {
-        let mut values = [0u8; 36864];
-        let Fields::Whole(n) = leaf_fields(file, &mut values) else {
-            return FileRead::Refused(13);
-        };
-        return deliver(&values, n, leaves);
+    if !begins_with(file, 0, 1, 52) {
+        return Err(Refusal::IllFormed);
     }
-    FileRead::Refused(13)
+    let mut values = [0u8; 36864];
+    let Some(n) = leaf_fields(file, &mut values) else {
+        return Err(Refusal::IllFormed);
+    };
+    deliver(&values, n, leaves)
 }
 
 // The setup's bytes, in a file that `read_file` reads as a map: bytes 3 to 54 of any file, and none of one that is shorter.

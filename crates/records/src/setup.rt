@@ -1,23 +1,29 @@
 // A setup of 52 bytes (document 01, 'Setup and leaf records', first paragraph): as words, and with the control word by its bits. Part of the
 // record layer. No public function has a `requires`: each refuses what it can't read, or is total.
 ghost use Rattle.std.specs.Prelude.{◌≡◌, length};
-ghost use Rattle.records.specs.Setup.{words_of, read_words, control_of, setup_from, read_setup, bit_of, register_of, byte_in};
+ghost use Rattle.records.specs.Setup.{words_of, read_words, control_of, setup_from, read_setup, of_level, byte_in};
 
 use crate::access::Level;
 use crate::number::{half, word};
+use crate::refusal::Refusal;
 
-// A bit for each privilege level.
+// One for each privilege level.
 #[derive(Clone, Copy)]
-pub struct LevelBits {
-    pub privileged: bool,
-    pub unprivileged: bool,
+pub struct PerLevel<T> {
+    pub privileged: T,
+    pub unprivileged: T,
 }
 
-// A register for each privilege level.
-#[derive(Clone, Copy)]
-pub struct LevelRegisters {
-    pub privileged: u64,
-    pub unprivileged: u64,
+impl<T: Copy> PerLevel<T> {
+    // That of a level.
+    pub fn of(self, l: Level) -> T
+        ensures { result ≡ of_level self l }
+    {
+        match l {
+            Level::Privileged => self.privileged,
+            Level::Unprivileged => self.unprivileged,
+        }
+    }
 }
 
 // A setup as it stands: the control word and six registers.
@@ -26,15 +32,8 @@ pub struct Words {
     pub control: u32,
     pub mair: u64,
     pub mair2: u64,
-    pub pir: LevelRegisters,
-    pub por: LevelRegisters,
-}
-
-// The words of a setup, or a refusal's number.
-#[derive(Clone, Copy)]
-pub enum WordsRead {
-    Read(Words),
-    Refused(u8),
+    pub pir: PerLevel<u64>,
+    pub por: PerLevel<u64>,
 }
 
 // The control bits, 0 to 12 in order, and whether one above 12 is set.
@@ -45,7 +44,7 @@ pub struct Control {
     pub stage1: bool,
     pub stage2: bool,
     pub indirect: bool,
-    pub overlay: LevelBits,
+    pub overlay: PerLevel<bool>,
     pub wxn: bool,
     pub pan: bool,
     // Table limits disabled.
@@ -64,35 +63,8 @@ pub struct Setup {
     pub control: Control,
     pub mair: u64,
     pub mair2: u64,
-    pub pir: LevelRegisters,
-    pub por: LevelRegisters,
-}
-
-// A setup, or a refusal's number.
-#[derive(Clone, Copy)]
-pub enum SetupRead {
-    Read(Setup),
-    Refused(u8),
-}
-
-// The bit of a level.
-pub fn bit_of(b: LevelBits, l: Level) -> bool
-    ensures { result ≡ bit_of b l }
-{
-    match l {
-        Level::Privileged => b.privileged,
-        Level::Unprivileged => b.unprivileged,
-    }
-}
-
-// The register of a level.
-pub fn register_of(r: LevelRegisters, l: Level) -> u64
-    ensures { result ≡ register_of r l }
-{
-    match l {
-        Level::Privileged => r.privileged,
-        Level::Unprivileged => r.unprivileged,
-    }
+    pub pir: PerLevel<u64>,
+    pub por: PerLevel<u64>,
 }
 
 // The byte that AttrIndx[2:0] picks in MAIR or MAIR2.
@@ -111,11 +83,11 @@ fn words_of(s: &[u8]) -> Words
         control: half(s, 0) as u32,
         mair: word(s, 4),
         mair2: word(s, 12),
-        pir: LevelRegisters {
+        pir: PerLevel {
             privileged: word(s, 20),
             unprivileged: word(s, 28),
         },
-        por: LevelRegisters {
+        por: PerLevel {
             privileged: word(s, 36),
             unprivileged: word(s, 44),
         },
@@ -124,13 +96,13 @@ fn words_of(s: &[u8]) -> Words
 
 // The words of a setup of 52 bytes, or 13.
 #[tactic(auto, unfolding(crate::specs::Setup::read_words))]
-pub fn read_words(s: &[u8]) -> WordsRead
+pub fn read_words(s: &[u8]) -> Result<Words, Refusal>
     ensures { result ≡ read_words s.now }
 {
     if s.len() != 52 {
-        return WordsRead::Refused(13);
+        return Err(Refusal::IllFormed);
     }
-    WordsRead::Read(words_of(s))
+    Ok(words_of(s))
 }
 
 // The control bits of a control word.
@@ -143,7 +115,7 @@ pub fn read_control(w: u32) -> Control
         stage1: (w >> 1) % 2 == 1,
         stage2: (w >> 2) % 2 == 1,
         indirect: (w >> 3) % 2 == 1,
-        overlay: LevelBits {
+        overlay: PerLevel {
             privileged: (w >> 4) % 2 == 1,
             unprivileged: (w >> 5) % 2 == 1,
         },
@@ -175,11 +147,9 @@ fn setup_from(w: Words) -> Setup
 }
 
 // The setup of 52 bytes, or 13.
-pub fn read_setup(s: &[u8]) -> SetupRead
+#[tactic(auto, unfolding(crate::specs::Setup::read_setup, crate::specs::Setup::read_words, crate::specs::Setup::setup_of))]
+pub fn read_setup(s: &[u8]) -> Result<Setup, Refusal>
     ensures { result ≡ read_setup s.now }
 {
-    let WordsRead::Read(w) = read_words(s) else {
-        return SetupRead::Refused(13);
-    };
-    SetupRead::Read(setup_from(w))
+    Ok(setup_from(read_words(s)?))
 }
