@@ -9,11 +9,13 @@ use Rattle.attributes.specs.StageTwoType.{mem_attr_of, reserved_mem_attr}
 use Rattle.attributes.specs.Combine.{combine, result_of, result_byte}
 use Rattle.attributes.specs.Shareability.{reserved_sh, stage1_sh, stage2_sh, combined_sh, result_sh}
 use Rattle.attributes.specs.Order.{check_of, memory_of, attributes_of}
-use Rattle.attributes.specs.declared.Attributes.{Attributes}
-use Rattle.attributes.specs.declared.Attributes.TheVariants.{Combined, Refused}
 use Rattle.records.specs.Setup.{control_of}
 use Rattle.records.specs.Descriptor.{stage1_of, stage2_of}
 use Rattle.records.specs.declared.setup.Setup.{Setup}
+use Rattle.std.specs.Prelude.{Result, Ok, Err}
+use Rattle.records.specs.declared.refusal.Refusal.{Refusal}
+use Rattle.records.specs.declared.refusal.Refusal.TheVariants.{MemoryCode, ReservedSh}
+use Rattle.attributes.specs.declared.Memory.{Memory}
 
 -- a setup with a control word; MAIR2 is F0AA00
 abbrev setup : ℕ → Setup
@@ -25,11 +27,11 @@ setup w = record {
   por = record { privileged = 0; unprivileged = 0 };
 }
 
-abbrev answer : ℕ → ℕ → ℕ → Bool → Attributes
+abbrev answer : ℕ → ℕ → ℕ → Bool → Result Memory Refusal
 answer w d e fetch = attributes_of (setup w) (stage1_of d) (stage2_of e) fetch
 
-abbrev memory : ℕ → ℕ → ℕ → Attributes
-memory o i sh = Combined (record { byte = nibbles o i; sh = sh })
+abbrev memory : ℕ → ℕ → ℕ → Result Memory Refusal
+memory o i sh = Ok (record { byte = nibbles o i; sh = sh })
 
 -- First, stage 1 off, stage 2 with MemAttr F and SH 0 (4FD): with DC; data; a fetch, instruction cacheable and not; with both off, data.
 -- Second, stage 2 off, its descriptor ignored (1D1 has MemAttr 4 and SH 01): AttrIndx[3] with index 1 (747), with AIE and without it; and
@@ -41,6 +43,6 @@ pub sentences :
     × (answer 4099 576460752303425351 465 false ∷ answer 3 576460752303425351 465 false ∷ answer 3 1867 465 false ∷ []
     ≡ memory 10 10 3 ∷ memory 15 15 3 ∷ memory 4 4 2 ∷ [])
     × (answer 4099 576460752303424843 0 false ∷ answer 7 1863 1489 false ∷ answer 7 1863 1533 false ∷ answer 3 1359 0 false ∷ []
-    ≡ Refused 8 ∷ Refused 8 ∷ Refused 9 ∷ Refused 9 ∷ [])
+    ≡ Err MemoryCode ∷ Err MemoryCode ∷ Err ReservedSh ∷ Err ReservedSh ∷ [])
 unfolding control_of stage1_of stage2_of mair_byte off_byte stage1_byte reserved_byte mem_attr_of reserved_mem_attr combine result_of result_byte reserved_sh stage1_sh stage2_sh combined_sh result_sh check_of memory_of attributes_of
 sentences = (refl, refl, refl)

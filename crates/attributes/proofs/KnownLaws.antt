@@ -20,10 +20,11 @@ use Rattle.attributes.specs.StageTwoType.{mem_attr_of, reserved_mem_attr}
 use Rattle.attributes.specs.Shareability.{reserved_sh}
 use Rattle.attributes.specs.Order.{check_of}
 use Rattle.attributes.specs.Mirror.Known.{bad_sh, MemoryTable, known_with, passes}
+use Rattle.records.specs.declared.refusal.Refusal.TheVariants.{MemoryCode, ReservedSh}
 
 -- four digits are 0 exactly where the three checks pass
 all_pass : (a b x y : Bool) → (eqb (digit a) 0 && eqb (digit b) 0 && eqb (digit x) 0 && eqb (digit y) 0)
-    ≡ passes (check_then (check_if a 8) (check_then (check_if b 8) (check_if (x || y) 9)))
+    ≡ passes (check_then (check_if a MemoryCode) (check_then (check_if b MemoryCode) (check_if (x || y) ReservedSh)))
 all_pass true b x y = refl
 all_pass false true x y = refl
 all_pass false false true y = refl

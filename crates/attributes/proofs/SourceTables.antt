@@ -7,8 +7,10 @@ use Prim.Native.Nat.{ℕ, ◌+◌, ◌*◌, ◌/◌, ◌%◌}
 use mathlib.Core.List.{List, [], ◌∷◌}
 use mathlib.Core.Bool.{Bool, true, false}
 use lib.ListN.{get_or}
-use Rattle.attributes.specs.declared.Attributes.{Attributes}
-use Rattle.attributes.specs.declared.Attributes.TheVariants.{Combined, Refused}
+use Rattle.std.specs.Prelude.{Result, Ok, Err}
+use Rattle.records.specs.declared.refusal.Refusal.{Refusal}
+use Rattle.records.specs.declared.refusal.Refusal.TheVariants.{MemoryCode, ReservedSh}
+use Rattle.attributes.specs.declared.Memory.{Memory}
 
 -- what table D8-96 assigns to a level
 pub data Cacheability : Type 0 where
@@ -222,15 +224,15 @@ treated true InnerShareable = OuterShareable
 treated true ReservedSH = ReservedSH
 
 -- the answer with byte b and a shareability
-abbrev answered : ℕ → Shareability → Attributes
-answered b NonShareable = Combined (record { byte = b; sh = 0 })
-answered b OuterShareable = Combined (record { byte = b; sh = 2 })
-answered b InnerShareable = Combined (record { byte = b; sh = 3 })
-answered b ReservedSH = Refused 9
+abbrev answered : ℕ → Shareability → Result Memory Refusal
+answered b NonShareable = Ok (record { byte = b; sh = 0 })
+answered b OuterShareable = Ok (record { byte = b; sh = 2 })
+answered b InnerShareable = Ok (record { byte = b; sh = 3 })
+answered b ReservedSH = Err ReservedSh
 
 -- what the tables say once the types are known, with SH x at stage 1 and y at stage 2
-unfoldable pub answer_in : Typed → ℕ → ℕ → Attributes
-answer_in refused x y = Refused 8
+unfoldable pub answer_in : Typed → ℕ → ℕ → Result Memory Refusal
+answer_in refused x y = Err MemoryCode
 answer_in (typed b u v w) x y =
     answered b
     (treated w

@@ -15,14 +15,16 @@ use Rattle.attributes.specs.Combine.{combine, result_of, result_byte}
 use Rattle.attributes.specs.Shareability.{uncached, counted, stronger, reserved_sh, stage1_sh, stage2_sh, combined_sh, result_sh}
 use Rattle.records.specs.Values.{check_if, check_then}
 use Rattle.attributes.specs.Order.{check_of, memory_of, combined_if, attributes_of}
-use Rattle.attributes.specs.declared.Attributes.{Attributes}
-use Rattle.attributes.specs.declared.Attributes.TheVariants.{Refused}
 use Rattle.records.proofs.Cases.{upto, both, at, at_both}
 use Rattle.attributes.proofs.Codes.{at-codes}
 use Rattle.attributes.proofs.SourceTables.{Typed, refused, typed, typed_in, answer_in}
 use Rattle.records.specs.declared.descriptor.Stage1.{Stage1}
 use Rattle.records.specs.declared.descriptor.Stage2.{Stage2}
 use Rattle.records.specs.declared.setup.Setup.{Setup}
+use Rattle.records.specs.declared.refusal.Refusal.TheVariants.{MemoryCode, ReservedSh}
+use Rattle.std.specs.Prelude.{Result, Err}
+use Rattle.records.specs.declared.refusal.Refusal.{Refusal}
+use Rattle.attributes.specs.declared.Memory.{Memory}
 
 -- what the definitions say of a byte and MemAttr
 unfoldable typed_of : Bool → ℕ → ℕ → Typed
@@ -31,23 +33,23 @@ typed_of fwb b m =
     (cond (reserved_code fwb m) refused (typed (combine fwb b m) (uncached b) (uncached_code m) (uncached (combine fwb b m))))
 
 -- what they say once that is known, with SH x at stage 1 and y at stage 2
-unfoldable answer_of : Typed → ℕ → ℕ → Attributes
-answer_of refused x y = Refused 8
+unfoldable answer_of : Typed → ℕ → ℕ → Result Memory Refusal
+answer_of refused x y = Err MemoryCode
 answer_of (typed b u v w) x y =
-    combined_if (check_if (eqb x 1 || eqb y 1) 9) (record { byte = b; sh = counted w (stronger (counted u x) (counted v y)) })
+    combined_if (check_if (eqb x 1 || eqb y 1) ReservedSh) (record { byte = b; sh = counted w (stronger (counted u x) (counted v y)) })
 
 types : (fwb : Bool) (b m : ℕ) → b < 256 → m < 16 → typed_of fwb b m ≡ typed_in fwb b m
 unfolding typed_of typed_in combine
 types = at-codes typed_of typed_in refl
 
 -- the answers of a byte at both values of SH, for the three Bools
-abbrev shares : (Typed → ℕ → ℕ → Attributes) → ℕ → Bool → Bool → Bool → List (List Attributes)
+abbrev shares : (Typed → ℕ → ℕ → (Result Memory Refusal)) → ℕ → Bool → Bool → Bool → List (List (Result Memory Refusal))
 shares f b u v w = upto 4 (λ (x : ℕ). upto 4 (f (typed b u v w) x))
 
-abbrev shares3 : (Typed → ℕ → ℕ → Attributes) → ℕ → Bool → Bool → List (List (List Attributes))
+abbrev shares3 : (Typed → ℕ → ℕ → (Result Memory Refusal)) → ℕ → Bool → Bool → List (List (List (Result Memory Refusal)))
 shares3 f b u v = both (shares f b u v)
 
-abbrev shares2 : (Typed → ℕ → ℕ → Attributes) → ℕ → Bool → List (List (List (List Attributes)))
+abbrev shares2 : (Typed → ℕ → ℕ → (Result Memory Refusal)) → ℕ → Bool → List (List (List (List (Result Memory Refusal))))
 shares2 f b u = both (shares3 f b u)
 
 answers : (t : Typed) (x y : ℕ) → x < 4 → y < 4 → answer_of t x y ≡ answer_in t x y
@@ -68,7 +70,7 @@ module _ (s : Setup) (d : Stage1) (e : Stage2) (fetch : Bool) (on : s.control.st
   steps = rw (on, on2) (go (valid_byte (mair_byte s d)) (reserved_code s.control.fwb (mem_attr_of e)) _ _ _ _ _ _)
     where
       go : (v r : Bool) (b : ℕ) (p q w : Bool) (x y : ℕ)
-          → combined_if (check_then (check_if (not v) 8) (check_then (check_if r 8) (check_if (eqb x 1 || eqb y 1) 9)))
+          → combined_if (check_then (check_if (not v) MemoryCode) (check_then (check_if r MemoryCode) (check_if (eqb x 1 || eqb y 1) ReservedSh)))
           (record { byte = b; sh = counted w (stronger (counted p x) (counted q y)) })
           ≡ answer_of (cond (not v) refused (cond r refused (typed b p q w))) x y
       go false r b p q w x y = refl

@@ -19,8 +19,8 @@ use Rattle.attributes.specs.StageTwoType.{mem_attr_of, device_code, reserved_cod
 use Rattle.attributes.specs.Combine.{combine, result_of, result_byte}
 use Rattle.attributes.specs.Shareability.{uncached, counted, stronger, reserved_sh, stage1_sh, stage2_sh, combined_sh, result_sh}
 use Rattle.attributes.specs.Order.{attributes_of, memory_of}
-use Rattle.attributes.specs.declared.Attributes.TheVariants.{Combined}
 use Rattle.attributes.specs.declared.Memory.{Memory}
+use Rattle.std.specs.Prelude.{Ok}
 
 -- t wherever a and b hold
 abbrev where_both : Bool → Bool → Bool → Bool
@@ -46,7 +46,7 @@ combine-valid fwb b m hb hm v r =
     (ltb-true _ _ h.0, h.1)
 
 -- the byte of every answer is a valid MAIR byte
-pub answer-valid : (s : Setup) (d : Stage1) (e : Stage2) (fetch : Bool) (m : Memory) → attributes_of s d e fetch ≡ Combined m
+pub answer-valid : (s : Setup) (d : Stage1) (e : Stage2) (fetch : Bool) (m : Memory) → attributes_of s d e fetch ≡ Ok m
     → ValidByte m.byte
 unfolding mair_byte off_byte stage1_byte reserved_byte mem_attr_of reserved_mem_attr result_of result_byte memory_of
 answer-valid s d e fetch m p =
@@ -69,7 +69,7 @@ answer-valid s d e fetch m p =
     second false fwb b n v hn r = v
 
 -- the SH of every answer is 0, 2 or 3
-pub answer-sh : (s : Setup) (d : Stage1) (e : Stage2) (fetch : Bool) (m : Memory) → attributes_of s d e fetch ≡ Combined m
+pub answer-sh : (s : Setup) (d : Stage1) (e : Stage2) (fetch : Bool) (m : Memory) → attributes_of s d e fetch ≡ Ok m
     → is_sh m.sh ≡ true
 unfolding reserved_sh stage1_sh combined_sh result_sh memory_of
 answer-sh s d e fetch m p =

@@ -18,10 +18,3 @@ pub struct Memory {
     pub byte: u8,
     pub sh: u8,
 }
-
-// The byte and SH that both stages give, or a refusal's number.
-#[derive(Clone, Copy)]
-pub enum Attributes {
-    Combined(Memory),
-    Refused(u8),
-}

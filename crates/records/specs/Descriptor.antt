@@ -111,8 +111,8 @@ code_place i = i.0 % 16
 abbrev pub code_at : ℕ → PIIndex → ℕ
 code_at pir i = nibble pir (code_place i)
 
-abbrev pub entry_of : List ℕ → PIIndex → ℕ
-entry_of t i = get_or t (code_place i) 0
+abbrev pub entry_of : {A : Type 0} → A → List A → PIIndex → A
+entry_of other t i = get_or t (code_place i) other
 
 -- the place of the overlay slot that a POIndex picks, 0 to 7, and the slot in a POR
 abbrev pub place_of : POIndex → ℕ

@@ -18,29 +18,30 @@ use Rattle.records.specs.declared.access.Right.TheVariants.{Read, Write, Execute
 use Rattle.records.specs.declared.descriptor.Limits.{Limits}
 use Rattle.records.specs.declared.descriptor.Stage1.{Stage1}
 use Rattle.records.specs.declared.descriptor.Stage2.{Stage2}
-use Rattle.records.specs.declared.setup.LevelBits.{LevelBits}
+use Rattle.records.specs.declared.setup.PerLevel.{PerLevel}
 use Rattle.records.specs.declared.setup.Setup.{Setup}
 use Rattle.rights.specs.Mirror.Base.{BaseAnswer, pair, indirect_of, direct_base, base_of, base_from}
 use Rattle.rights.specs.Direct.{direct_steps, direct_of}
 use Rattle.rights.specs.Indirect.{code_of, codes_at, reserved_code, unjudged_code, code_rights, code_overlays}
-use Rattle.rights.specs.declared.indirect.Codes.{Codes}
 use Rattle.rights.specs.Answers.{follow, fault_unless, refuse_if, descriptor_answer, permitted}
 use Rattle.rights.specs.Promise.{collect, level_of, LevelAnswer}
 use Rattle.rights.specs.Stage1.{dirty, base_rights, base_cause, base_answer, stage1_answer}
 use Rattle.rights.specs.Order.{stage1_if, stages_answer}
-use Rattle.records.specs.Setup.{bit_of, register_of}
+use Rattle.records.specs.Setup.{of_level}
 use Rattle.rights.specs.Overlay.{slot_answer, overlay_answer}
 use Rattle.rights.specs.Mirror.Pass.{from_base, stage1_pass, stage2_pass, none, any, both, overlaid, pass_level, pass_with, pass, Stage1Pass, Stage2Pass}
 use Rattle.rights.specs.Stage2.{stage2_rights, stage2_cause, stage2_answer}
 use Rattle.rights.specs.Steps.{everything, left_after, fixed}
-use Rattle.rights.specs.declared.answers.Answer.{Answer}
-use Rattle.rights.specs.declared.answers.Answer.TheVariants.{Permitted, Refused}
-use Rattle.rights.specs.declared.answers.Answer.TheVariants as answered
 use Rattle.rights.specs.declared.answers.Fault.{Fault}
 use Rattle.rights.specs.declared.answers.Kind.TheVariants.{Translation, AccessFlag, Permission, Overlay}
 use Rattle.records.specs.declared.access.LevelRights.{LevelRights}
 use Rattle.rights.proofs.OrderLaws.{stages-as}
 use Rattle.rights.proofs.Removers.{has-everything}
+use Rattle.std.specs.Prelude.{Ok, Err}
+use Rattle.records.specs.declared.refusal.Refusal.TheVariants.{ReservedCode, Unjudged}
+use Rattle.rights.specs.declared.answers.Stop.TheVariants.{Faulted, Refused}
+use Rattle.rights.specs.Answers.{Answer}
+use Rattle.rights.specs.declared.indirect.Code.{Code}
 
 -- the fault that a descriptor gives every access, by its valid bit, with cause t or f
 abbrev first_fault : ℕ → ℕ → ℕ → Bool → Fault
@@ -49,31 +50,31 @@ first_fault s t f v = record { stage = s; kind = cond v AccessFlag Translation; 
 -- what stage 2 answers to an access that reaches it, where g is the fault of every access and c the cause of a missing right
 abbrev stage2_as : Stage2Pass → Fault → ℕ → Level → Right → Answer
 stage2_as (Stage2Pass.Granted k) g c l r = fault_unless (has_right (level_in k l) r) 2 Permission c
-stage2_as Stage2Pass.Nothing g c l r = answered.Fault g
-stage2_as (Stage2Pass.Refused n) g c l r = Refused n
+stage2_as Stage2Pass.Nothing g c l r = Err (Faulted g)
+stage2_as (Stage2Pass.Refused n) g c l r = Err (Refused n)
 
 -- what stage 1 answers to an access
-abbrev stage1_as : LevelBits → Stage1Pass → ℕ → Fault → ℕ → Level → Right → Answer
+abbrev stage1_as : PerLevel Bool → Stage1Pass → ℕ → Fault → ℕ → Level → Right → Answer
 stage1_as o (Stage1Pass.Granted b) v g c l r =
-    follow (fault_unless (has_right (level_in b.rights l) r) 1 Permission c) (slot_answer (bit_of o l && bit_of b.overlay l) v r)
-stage1_as o Stage1Pass.Nothing v g c l r = answered.Fault g
-stage1_as o (Stage1Pass.Refused n) v g c l r = Refused n
+    follow (fault_unless (has_right (level_in b.rights l) r) 1 Permission c) (slot_answer (of_level o l && of_level b.overlay l) v r)
+stage1_as o Stage1Pass.Nothing v g c l r = Err (Faulted g)
+stage1_as o (Stage1Pass.Refused n) v g c l r = Err (Refused n)
 
-never-overlaid : (b : Bool) (l : Level) → (b && bit_of (record { privileged = false; unprivileged = false }) l) ≡ false
+never-overlaid : (b : Bool) (l : Level) → (b && of_level (record { privileged = false; unprivileged = false }) l) ≡ false
 never-overlaid true Privileged = refl
 never-overlaid true Unprivileged = refl
 never-overlaid false Privileged = refl
 never-overlaid false Unprivileged = refl
 
 stage2-as : (on : Bool) (d : Stage2) (l : Level) (r : Right)
-    → cond on (stage2_answer d (access_of l r)) Permitted
+    → cond on (stage2_answer d (access_of l r)) (Ok tt)
     ≡ stage2_as (stage2_pass on d) (first_fault 2 13 14 d.valid) (stage2_cause d (access_of l r)) l r
 unfolding stage2_answer stage2_pass
 stage2-as on d l r = go on d.valid d.af d.bit51 (stage2_cause d (access_of l r))
   where
     go : (o v f b : Bool) (c : ℕ)
-        → cond o (follow (descriptor_answer 2 13 14 v f b) (fault_unless (has_right (level_in (stage2_rights d) l) r) 2 Permission c)) Permitted
-        ≡ stage2_as (cond o (cond (v && f) (cond b (Stage2Pass.Refused 7) (Stage2Pass.Granted (stage2_rights d))) Stage2Pass.Nothing) (Stage2Pass.Granted everything))
+        → cond o (follow (descriptor_answer 2 13 14 v f b) (fault_unless (has_right (level_in (stage2_rights d) l) r) 2 Permission c)) (Ok tt)
+        ≡ stage2_as (cond o (cond (v && f) (cond b (Stage2Pass.Refused Unjudged) (Stage2Pass.Granted (stage2_rights d))) Stage2Pass.Nothing) (Stage2Pass.Granted everything))
         (first_fault 2 13 14 v) c l r
     go false v f b c = rw (has-everything l r)
     go true false f b c = refl
@@ -88,15 +89,15 @@ base-as s d t a =
     let k = pair (code_of (code_at s.pir.privileged d.piindex)) (code_of (code_at s.pir.unprivileged d.piindex)) in
     go k s.control.indirect (reserved_code s.control.two k) (unjudged_code s.control.two k) (base_cause s d t a)
   where
-    go : (k : Codes) (i v u : Bool) (c : ℕ)
-        → follow (refuse_if (i && v) 6)
-        (follow (refuse_if (i && u) 7)
+    go : (k : PerLevel Code) (i v u : Bool) (c : ℕ)
+        → follow (refuse_if (i && v) ReservedCode)
+        (follow (refuse_if (i && u) Unjudged)
         (follow (fault_unless (has (left_after everything (cond i (fixed 1 (code_rights s.control.two k) ∷ []) (direct_steps s.control d t))) a) 1 Permission c)
         (overlay_answer s d (cond i (code_overlays k) (record { privileged = true; unprivileged = true })) a)))
         ≡ base_from s d c a
         (cond i
-        (cond v (BaseAnswer.Refused 6)
-        (cond u (BaseAnswer.Refused 7) (BaseAnswer.Granted (record { rights = code_rights s.control.two k; overlay = code_overlays k }))))
+        (cond v (Err ReservedCode)
+        (cond u (Err Unjudged) (Ok (record { rights = code_rights s.control.two k; overlay = code_overlays k }))))
         (direct_base s d t))
     go k false v u c = refl
     go k true true u c = refl
@@ -104,8 +105,8 @@ base-as s d t a =
     go k true false false c = refl
 
 stage1-as : (s : Setup) (d : Stage1) (t : Limits) (l : Level) (r : Right)
-    → cond s.control.stage1 (stage1_answer s d t (access_of l r)) Permitted
-    ≡ stage1_as s.control.overlay (stage1_pass s d t) (slot_at (register_of s.por l) d.poindex) (first_fault 1 11 12 d.valid)
+    → cond s.control.stage1 (stage1_answer s d t (access_of l r)) (Ok tt)
+    ≡ stage1_as s.control.overlay (stage1_pass s d t) (slot_at (of_level s.por l) d.poindex) (first_fault 1 11 12 d.valid)
     (base_cause s d t (access_of l r)) l r
 unfolding stage1_answer stage1_pass
 stage1-as s d t l r =
@@ -113,26 +114,26 @@ stage1-as s d t l r =
     (go s.control.stage1 d.valid d.af (dirty s.control d) (base_cause s d t (access_of l r)) (base_of s d t))
   where
     go : (o v f b : Bool) (c : ℕ) (x : BaseAnswer)
-        → cond o (follow (descriptor_answer 1 11 12 v f b) (base_from s d c (access_of l r) x)) Permitted
+        → cond o (follow (descriptor_answer 1 11 12 v f b) (base_from s d c (access_of l r) x)) (Ok tt)
         ≡ stage1_as s.control.overlay
-        (cond o (cond (v && f) (cond b (Stage1Pass.Refused 7) (from_base x)) Stage1Pass.Nothing) (Stage1Pass.Granted (record { rights = everything; overlay = record { privileged = false; unprivileged = false } })))
-        (slot_at (register_of s.por l) d.poindex) (first_fault 1 11 12 v) c l r
-    go false v f b c x = rw (has-everything l r, never-overlaid (bit_of s.control.overlay l) l)
+        (cond o (cond (v && f) (cond b (Stage1Pass.Refused Unjudged) (from_base x)) Stage1Pass.Nothing) (Stage1Pass.Granted (record { rights = everything; overlay = record { privileged = false; unprivileged = false } })))
+        (slot_at (of_level s.por l) d.poindex) (first_fault 1 11 12 v) c l r
+    go false v f b c x = rw (has-everything l r, never-overlaid (of_level s.control.overlay l) l)
     go true false f b c x = refl
     go true true false b c x = refl
     go true true true true c x = refl
-    go true true true false c (BaseAnswer.Granted b) = refl
-    go true true true false c (BaseAnswer.Refused n) = refl
+    go true true true false c (Ok b) = refl
+    go true true true false c (Err n) = refl
 
 -- one access: base right b, the cause c where it is missing, overlay on, slot reserved, slot's bit v, and what stage 2 answers
 abbrev answer : Bool → ℕ → Bool → Bool → Bool → Answer → Answer
 answer b c on reserved v y =
-    follow (follow (fault_unless b 1 Permission c) (cond on (follow (refuse_if reserved 6) (fault_unless v 1 Overlay 8)) Permitted)) y
+    follow (follow (fault_unless b 1 Permission c) (cond on (follow (refuse_if reserved ReservedCode) (fault_unless v 1 Overlay 8)) (Ok tt))) y
 
 -- what stands where a level is refused
 abbrev when_refused : LevelAnswer → LevelRights → LevelRights
-when_refused (LevelAnswer.Rights r) x = none
-when_refused (LevelAnswer.Refused n) x = x
+when_refused (Ok r) x = none
+when_refused (Err n) x = x
 
 -- three accesses as a level's answer, and those that are permitted on a level that is refused
 abbrev level : Answer → Answer → Answer → LevelAnswer × LevelRights
@@ -152,7 +153,7 @@ accesses c y m =
 
 abbrev passed : (LevelRights → LevelRights → LevelAnswer) → List Bool → LevelAnswer × LevelRights
 passed y m = (
-  cond (pick m 3 && pick m 4 && any (three (pick m 0) (pick m 1) (pick m 2))) (LevelAnswer.Refused 6)
+  cond (pick m 3 && pick m 4 && any (three (pick m 0) (pick m 1) (pick m 2))) (Err ReservedCode)
       (y (overlaid (pick m 3) (three (pick m 5) (pick m 6) (pick m 7)) (three (pick m 0) (pick m 1) (pick m 2))) (three (pick m 8) (pick m 9) (pick m 10))),
   none,
 )
@@ -190,19 +191,19 @@ passes : (r : LevelRights) (on : Bool) (v : ℕ) (t : Stage2Pass) (g : Fault) (c
     (follow (follow (fault_unless r.execute 1 Permission (c Execute)) (slot_answer on v Execute)) (stage2_as t g (e Execute) l Execute))
     ≡ (pass_level r on v t l, none)
 passes r on v (Stage2Pass.Granted k) g c e l =
-    by-slot (accesses c (λ x b. fault_unless b 2 Permission (e x))) (passed (λ a b. LevelAnswer.Rights (both a b))) r (level_in k l) v on (leb 8 v) (λ t. refl) refl refl
+    by-slot (accesses c (λ x b. fault_unless b 2 Permission (e x))) (passed (λ a b. Ok (both a b))) r (level_in k l) v on (leb 8 v) (λ t. refl) refl refl
 passes r on v Stage2Pass.Nothing g c e l =
-    each (values r (on ∷ leb 8 v ∷ slot v [])) (accesses c (λ x b. answered.Fault g)) (passed (λ a b. LevelAnswer.Rights none)) refl
+    each (values r (on ∷ leb 8 v ∷ slot v [])) (accesses c (λ x b. (Err (Faulted g)))) (passed (λ a b. Ok none)) refl
 passes r on v (Stage2Pass.Refused n) g c e l =
-    each (values r (on ∷ leb 8 v ∷ slot v [])) (accesses c (λ x b. Refused n)) (passed (λ a b. cond (any a) (LevelAnswer.Refused n) (LevelAnswer.Rights none))) refl
+    each (values r (on ∷ leb 8 v ∷ slot v [])) (accesses c (λ x b. (Err (Refused n)))) (passed (λ a b. cond (any a) (Err n) (Ok none))) refl
 
 -- the same with stage 1 as a whole
-with-stage1 : (o : LevelBits) (x : Stage1Pass) (v : ℕ) (t : Stage2Pass) (f g : Fault) (c e : Right → ℕ) (l : Level)
+with-stage1 : (o : PerLevel Bool) (x : Stage1Pass) (v : ℕ) (t : Stage2Pass) (f g : Fault) (c e : Right → ℕ) (l : Level)
     → level (follow (stage1_as o x v f (c Read) l Read) (stage2_as t g (e Read) l Read))
     (follow (stage1_as o x v f (c Write) l Write) (stage2_as t g (e Write) l Write))
     (follow (stage1_as o x v f (c Execute) l Execute) (stage2_as t g (e Execute) l Execute))
     ≡ (pass_with o x v t l, none)
-with-stage1 o (Stage1Pass.Granted b) v t f g c e l = passes (level_in b.rights l) (bit_of o l && bit_of b.overlay l) v t g c e l
+with-stage1 o (Stage1Pass.Granted b) v t f g c e l = passes (level_in b.rights l) (of_level o l && of_level b.overlay l) v t g c e l
 with-stage1 o Stage1Pass.Nothing v t f g c e l = refl
 with-stage1 o (Stage1Pass.Refused n) v t f g c e l = refl
 
@@ -223,7 +224,7 @@ both-agree s d e t l =
       stage2-as s.control.stage2 e l Write,
       stage2-as s.control.stage2 e l Execute,
     )
-    (with-stage1 s.control.overlay (stage1_pass s d t) (slot_at (register_of s.por l) d.poindex) (stage2_pass s.control.stage2 e)
+    (with-stage1 s.control.overlay (stage1_pass s d t) (slot_at (of_level s.por l) d.poindex) (stage2_pass s.control.stage2 e)
     (first_fault 1 11 12 d.valid) (first_fault 2 13 14 e.valid) (λ r. base_cause s d t (access_of l r)) (λ r. stage2_cause e (access_of l r)) l)
 
 -- the rights of a level are those of the pass

@@ -20,8 +20,10 @@ use Rattle.rights.specs.Indirect.{meanings, fields, reserved, code_of}
 use Rattle.rights.specs.Mirror.Base.{indirect_step}
 use Rattle.rights.specs.Mirror.BaseMasks.{base_mask, keep, descriptor_table, limits_table, level_place, descriptor_left, limits_left, descriptor_place, removed, codes, upper_bits, pair_mask}
 use Rattle.rights.specs.Steps.{Step, step, fixed, everything, left_after}
-use Rattle.rights.specs.declared.pass.Mask.{Mask}
 use Rattle.records.specs.declared.access.Rights.{Rights}
+use Rattle.std.specs.Prelude.{Result}
+use Rattle.records.specs.declared.refusal.Refusal.{Refusal}
+use Rattle.rights.specs.Mirror.BaseMasks.{Mask}
 
 abbrev pick : List ℕ → ℕ → ℕ
 pick m k = get_or m k 0

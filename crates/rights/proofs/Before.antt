@@ -10,20 +10,18 @@ use lib.ListN.{get_or}
 use Rattle.records.proofs.Cases.{each}
 use Rattle.records.specs.Access.{access_of, six, has_right, has}
 use Rattle.records.specs.Descriptor.{slot_at, stage1_of, stage2_of, limits_of}
-use Rattle.records.specs.Setup.{bit_of, register_of}
+use Rattle.records.specs.Setup.{of_level}
 use Rattle.records.specs.declared.access.Access.{Access}
 use Rattle.records.specs.declared.access.Level.{Level}
 use Rattle.records.specs.declared.access.Right.{Right}
 use Rattle.records.specs.declared.access.Right.TheVariants.{Read, Write, Execute}
 use Rattle.records.specs.declared.access.Rights.{Rights}
-use Rattle.records.specs.declared.check.Check.{Check}
-use Rattle.records.specs.declared.check.Check.TheVariants as check
 use Rattle.records.specs.declared.descriptor.Limits.{Limits}
 use Rattle.records.specs.declared.descriptor.Stage1.{Stage1}
 use Rattle.records.specs.declared.descriptor.Stage2.{Stage2}
 use Rattle.records.specs.declared.leaf.Leaf.{Leaf}
 use Rattle.records.specs.declared.setup.Control.{Control}
-use Rattle.records.specs.declared.setup.LevelBits.{LevelBits}
+use Rattle.records.specs.declared.setup.PerLevel.{PerLevel}
 use Rattle.records.specs.declared.setup.Setup.{Setup}
 use Rattle.rights.specs.Answers.{follow, fault_of, refuse_if, answer_of, permitted}
 use Rattle.rights.specs.Answers as today
@@ -39,19 +37,21 @@ use Rattle.rights.specs.Stage1 as first
 use Rattle.rights.specs.Stage2.{xn_px, xn_ux}
 use Rattle.rights.specs.Stage2 as second
 use Rattle.rights.specs.Steps.{Step, step, fixed, everything, left_after}
-use Rattle.rights.specs.declared.answers.Answer.{Answer}
-use Rattle.rights.specs.declared.answers.Answer.TheVariants.{Permitted, Fault, Refused}
 use Rattle.rights.specs.declared.answers.Kind.{Kind}
 use Rattle.rights.specs.declared.answers.Kind.TheVariants.{Translation, AccessFlag, Permission, Overlay}
-use Rattle.rights.specs.declared.checks.AccessCheck.{AccessCheck}
-use Rattle.rights.specs.declared.checks.AccessCheck.TheVariants as access
+use Rattle.std.specs.Prelude.{Result, Ok, Err}
+use Rattle.records.specs.declared.refusal.Refusal.{Refusal}
+use Rattle.records.specs.declared.refusal.Refusal.TheVariants.{ReservedCode, Unjudged}
+use Rattle.rights.specs.declared.answers.Stop.TheVariants.{Faulted, Refused}
+use Rattle.records.specs.Values.{Check}
+use Rattle.rights.specs.Answers.{Answer}
 
 -- Answers, as before
 abbrev fault_unless : Bool → ℕ → Kind → Answer
-fault_unless ok s k = cond ok Permitted (fault_of s k 0)
+fault_unless ok s k = cond ok (Ok tt) (fault_of s k 0)
 
 abbrev descriptor_answer : ℕ → Bool → Bool → Bool → Answer
-descriptor_answer s valid af dirty = follow (fault_unless valid s Translation) (follow (fault_unless af s AccessFlag) (refuse_if dirty 7))
+descriptor_answer s valid af dirty = follow (fault_unless valid s Translation) (follow (fault_unless af s AccessFlag) (refuse_if dirty Unjudged))
 
 -- Direct, as before
 abbrev ap_table : Bool → Bool → Rights → Rights
@@ -92,12 +92,12 @@ direct_of c d t = cond c.two (direct_two c d t) (direct_one c d t)
 
 -- Stage 1, as before
 abbrev slot_answer : Bool → ℕ → Right → Answer
-slot_answer on v r = cond on (follow (refuse_if (leb 8 v) 6) (fault_unless (has_right (slot_rights v) r) 1 Overlay)) Permitted
+slot_answer on v r = cond on (follow (refuse_if (leb 8 v) ReservedCode) (fault_unless (has_right (slot_rights v) r) 1 Overlay)) (Ok tt)
 
-abbrev overlay_answer : Setup → Stage1 → LevelBits → Access → Answer
+abbrev overlay_answer : Setup → Stage1 → PerLevel Bool → Access → Answer
 overlay_answer s d applies a =
-    slot_answer (bit_of s.control.overlay a.level && bit_of applies a.level)
-    (slot_at (register_of s.por a.level) d.poindex) a.right
+    slot_answer (of_level s.control.overlay a.level && of_level applies a.level)
+    (slot_at (of_level s.por a.level) d.poindex) a.right
 
 abbrev base_rights : Setup → Stage1 → Limits → Rights
 base_rights s d t =
@@ -105,8 +105,8 @@ base_rights s d t =
 
 abbrev base_answer : Setup → Stage1 → Limits → Access → Answer
 base_answer s d t a =
-    follow (refuse_if (reserved_base s d) 6)
-    (follow (refuse_if (unjudged_base s d) 7)
+    follow (refuse_if (reserved_base s d) ReservedCode)
+    (follow (refuse_if (unjudged_base s d) Unjudged)
     (follow (fault_unless (has (base_rights s d t) a) 1 Permission)
     (overlay_answer s d (overlays_apply s d) a)))
 
@@ -122,38 +122,38 @@ stage2_answer e a = follow (descriptor_answer 2 e.valid e.af e.bit51) (fault_unl
 
 -- The order, as before
 abbrev pub stages_answer : Setup → Stage1 → Stage2 → Limits → Access → Answer
-stages_answer s d e t a = follow (cond s.control.stage1 (stage1_answer s d t a) Permitted) (cond s.control.stage2 (stage2_answer e a) Permitted)
+stages_answer s d e t a = follow (cond s.control.stage1 (stage1_answer s d t a) (Ok tt)) (cond s.control.stage2 (stage2_answer e a) (Ok tt))
 
 abbrev leaf_answer : Setup → Leaf → Access → Answer
 leaf_answer s f a = stages_answer s (stage1_of f.stage1) (stage2_of f.stage2) (limits_of f.limits) a
 
-abbrev after_access : Setup → Leaf → AccessCheck → Answer
-after_access s f (access.Known a) = follow (answer_of (leaf_check f)) (leaf_answer s f a)
-after_access s f (access.Refused n) = Refused n
+abbrev after_access : Setup → Leaf → (Result Access Refusal) → Answer
+after_access s f (Ok a) = follow (answer_of (leaf_check f)) (leaf_answer s f a)
+after_access s f (Err n) = Err (Refused n)
 
 abbrev pub rights_answer : Setup → Leaf → ℕ → Answer
 rights_answer s f n = follow (answer_of (setup_check s.control)) (after_access s f (access_check s.control.two n))
 
 -- an answer without its cause
 unfoldable pub uncaused : Answer → Answer
-uncaused Permitted = Permitted
-uncaused (Fault g) = fault_of g.stage g.kind 0
-uncaused (Refused n) = Refused n
+uncaused (Ok u) = Ok tt
+uncaused (Err (Faulted g)) = fault_of g.stage g.kind 0
+uncaused (Err (Refused n)) = Err (Refused n)
 
-stands : (n : ℕ) → uncaused (Refused n) ≡ Refused n
+stands : (n : Refusal) → uncaused (Err (Refused n)) ≡ Err (Refused n)
 unfolding uncaused
 stands n = refl
 
-permits : uncaused Permitted ≡ Permitted
+permits : uncaused (Ok tt) ≡ Ok tt
 unfolding uncaused
 permits = refl
 
 -- it is taken from a chain step by step
 then : (x y : Answer) {u v : Answer} → uncaused x ≡ u → uncaused y ≡ v → uncaused (follow x y) ≡ follow u v
 unfolding uncaused
-then Permitted y p q = rw (← p) q
-then (Fault g) y p q = rw (← p)
-then (Refused n) y p q = rw (← p)
+then (Ok u) y p q = rw (← p) q
+then (Err (Faulted g)) y p q = rw (← p)
+then (Err (Refused n)) y p q = rw (← p)
 
 either : (b : Bool) (x y : Answer) {u v : Answer} → uncaused x ≡ u → uncaused y ≡ v → uncaused (cond b x y) ≡ cond b u v
 unfolding uncaused
@@ -165,18 +165,18 @@ unfolding uncaused
 fault true s k c = refl
 fault false s k c = refl
 
-refuses : (b : Bool) (n : ℕ) → uncaused (refuse_if b n) ≡ refuse_if b n
+refuses : (b : Bool) (n : Refusal) → uncaused (refuse_if b n) ≡ refuse_if b n
 unfolding uncaused
 refuses true n = refl
 refuses false n = refl
 
 checks : (c : Check) → uncaused (answer_of c) ≡ answer_of c
 unfolding uncaused
-checks check.Passes = refl
-checks (check.Refused n) = refl
+checks (Ok u) = refl
+checks (Err n) = refl
 
 descriptor : (s t a : ℕ) (v f d : Bool) → uncaused (today.descriptor_answer s t a v f d) ≡ descriptor_answer s v f d
-descriptor s t a v f d = then _ _ (fault v s Translation t) (then _ _ (fault f s AccessFlag a) (refuses d 7))
+descriptor s t a v f d = then _ _ (fault v s Translation t) (then _ _ (fault f s AccessFlag a) (refuses d Unjudged))
 
 -- the rights are those of the chain of steps: computed at all values of the bits that are read
 abbrev at : List Bool → ℕ → Bool
@@ -238,18 +238,18 @@ stage2-rights e =
 
 -- each stage
 abbrev slot : Setup → Stage1 → Access → ℕ
-slot s d a = slot_at (register_of s.por a.level) d.poindex
+slot s d a = slot_at (of_level s.por a.level) d.poindex
 
 same-stage1 : (s : Setup) (d : Stage1) (t : Limits) (a : Access) → uncaused (first.stage1_answer s d t a) ≡ stage1_answer s d t a
 unfolding first.stage1_answer first.base_answer
 same-stage1 s d t a =
     then _ _ (descriptor 1 11 12 d.valid d.af (dirty s.control d))
-    (then _ _ (refuses (reserved_base s d) 6)
-    (then _ _ (refuses (unjudged_base s d) 7)
+    (then _ _ (refuses (reserved_base s d) ReservedCode)
+    (then _ _ (refuses (unjudged_base s d) Unjudged)
     (then _ _
     (fault (has (first.base_rights s d t) a) 1 Permission (first.base_cause s d t a) ∙ ap (λ (r : Rights). fault_unless (has r a) 1 Permission) (base-rights s d t))
-    (either (bit_of s.control.overlay a.level && bit_of (overlays_apply s d) a.level) _ _
-    (then _ _ (refuses (leb 8 (slot s d a)) 6) (fault (has_right (slot_rights (slot s d a)) a.right) 1 Overlay 8)) permits))))
+    (either (of_level s.control.overlay a.level && of_level (overlays_apply s d) a.level) _ _
+    (then _ _ (refuses (leb 8 (slot s d a)) ReservedCode) (fault (has_right (slot_rights (slot s d a)) a.right) 1 Overlay 8)) permits))))
 
 same-stage2 : (e : Stage2) (a : Access) → uncaused (second.stage2_answer e a) ≡ stage2_answer e a
 unfolding second.stage2_answer
@@ -267,22 +267,22 @@ pub same-rights-answer : (s : Setup) (f : Leaf) (n : ℕ) → uncaused (order.ri
 unfolding order.rights_answer
 same-rights-answer s f n = then _ _ (checks (setup_check s.control)) (go (access_check s.control.two n))
   where
-    go : (x : AccessCheck) → uncaused (order.after_access s f x) ≡ after_access s f x
-    go (access.Known a) = then _ _ (checks (leaf_check f)) (same-stages s _ _ _ a)
-    go (access.Refused k) = stands k
+    go : (x : (Result Access Refusal)) → uncaused (order.after_access s f x) ≡ after_access s f x
+    go (Ok a) = then _ _ (checks (leaf_check f)) (same-stages s _ _ _ a)
+    go (Err k) = stands k
 
 -- what the planner asks for does not read causes: whether an access is permitted, and the rights of a level
 pub same-permitted : (x : Answer) → permitted x ≡ permitted (uncaused x)
 unfolding uncaused
-same-permitted Permitted = refl
-same-permitted (Fault g) = refl
-same-permitted (Refused n) = refl
+same-permitted (Ok u) = refl
+same-permitted (Err (Faulted g)) = refl
+same-permitted (Err (Refused n)) = refl
 
 same-unless : (x : Answer) (l : LevelAnswer) → unless_refused x l ≡ unless_refused (uncaused x) l
 unfolding uncaused
-same-unless Permitted l = refl
-same-unless (Fault g) l = refl
-same-unless (Refused n) l = refl
+same-unless (Ok u) l = refl
+same-unless (Err (Faulted g)) l = refl
+same-unless (Err (Refused n)) l = refl
 
 blind : (x y z : Answer) → collect x y z ≡ collect (uncaused x) (uncaused y) (uncaused z)
 blind x y z =

@@ -1,9 +1,9 @@
 pub mod AccessChecks
 pub mod Branches
+pub mod Entries
 pub mod MadeTables
 pub mod Tables
 pub mod BaseMasks
-pub mod AnswerSteps
 pub mod OrderLaws
 pub mod Removers
 pub mod Named

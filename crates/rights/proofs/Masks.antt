@@ -17,8 +17,8 @@ use Rattle.records.specs.declared.access.Level.TheVariants.{Privileged, Unprivil
 use Rattle.records.specs.declared.descriptor.Limits.{Limits}
 use Rattle.records.specs.declared.descriptor.Stage1.{Stage1}
 use Rattle.records.specs.declared.descriptor.Stage2.{Stage2}
-use Rattle.records.specs.declared.setup.LevelBits.{LevelBits}
-use Rattle.records.specs.Setup.{control_of, setup_from, bit_of}
+use Rattle.records.specs.declared.setup.PerLevel.{PerLevel}
+use Rattle.records.specs.Setup.{control_of, setup_from, of_level}
 use Rattle.records.specs.declared.setup.Setup.{Setup}
 use Rattle.records.specs.declared.setup.Words.{Words}
 use Rattle.rights.specs.Mirror.Base.{direct_base, base_of, indirect_of, Base, BaseAnswer}
@@ -26,7 +26,6 @@ use Rattle.records.specs.Access.{six, three, level_in, bits_in, digit, six_mask,
 use Rattle.rights.specs.Direct.{direct_of}
 use Rattle.rights.proofs.BaseMasks.{two_digits}
 use Rattle.rights.specs.Mirror.BaseMasks.{base_mask}
-use Rattle.rights.specs.declared.pass.Mask.TheVariants.{Granted, Refused}
 use Rattle.records.specs.declared.access.Rights.{Rights}
 use Rattle.rights.specs.Overlay.{slot_rights}
 use Rattle.rights.specs.Mirror.Masks.{level_mask, setup_with, stage1_mask, stage2_mask, applies_in, stage2_table, stage2_left, slot_left, mask_with, range_with}
@@ -36,6 +35,8 @@ use Rattle.rights.specs.Stage2.{xn_px, xn_ux, stage2_rights}
 use Rattle.rights.proofs.Ranges.{with-register, open-slot, shut-slot}
 use Rattle.rights.specs.Mirror.Pass.{from_base, stage1_pass, stage2_pass, none, any, both, overlaid, after_stage2, pass_level, pass_with, Stage1Pass, Stage2Pass}
 use Rattle.records.specs.declared.access.LevelRights.{LevelRights}
+use Rattle.std.specs.Prelude.{Ok, Err}
+use Rattle.records.specs.declared.refusal.Refusal.TheVariants.{ReservedCode, Unjudged}
 
 abbrev pick : List Bool → ℕ → Bool
 pick m k = get_or m k false
@@ -67,7 +68,7 @@ module _ (b : Base) where
   bits-base Privileged = each values (λ (m : List Bool). bits_in (base_at m) Privileged) (λ (m : List Bool). level_bits (level_in (six_at m) Privileged)) refl
   bits-base Unprivileged = each values (λ (m : List Bool). bits_in (base_at m) Unprivileged) (λ (m : List Bool). level_bits (level_in (six_at m) Unprivileged)) refl
 
-  applies-base : (l : Level) → applies_in (base_bits b) l ≡ bit_of b.overlay l
+  applies-base : (l : Level) → applies_in (base_bits b) l ≡ of_level b.overlay l
   applies-base Privileged = each values (λ (m : List Bool). applies_in (base_at m) Privileged) (λ (m : List Bool). pick m 6) refl
   applies-base Unprivileged = each values (λ (m : List Bool). applies_in (base_at m) Unprivileged) (λ (m : List Bool). pick m 7) refl
 
@@ -116,17 +117,17 @@ chosen true x y = refl
 chosen false x y = refl
 
 stage2-left : (a : LevelRights) (t : Stage2Pass) (l : Level) → stage2_left (level_bits a) (stage2_mask t) l ≡ level_mask (after_stage2 a t l)
-stage2-left a (Stage2Pass.Granted g) l = ap Granted (rw (bits-six g l) (and-bits a (level_in g l)))
-stage2-left a Stage2Pass.Nothing Privileged = ap Granted (and_none a)
-stage2-left a Stage2Pass.Nothing Unprivileged = ap Granted (and_none a)
-stage2-left a (Stage2Pass.Refused n) l = unless-any a (Granted 0) (Refused n) ∙ sym (chosen (any a) (LevelAnswer.Refused n) (LevelAnswer.Rights none))
+stage2-left a (Stage2Pass.Granted g) l = ap Ok (rw (bits-six g l) (and-bits a (level_in g l)))
+stage2-left a Stage2Pass.Nothing Privileged = ap Ok (and_none a)
+stage2-left a Stage2Pass.Nothing Unprivileged = ap Ok (and_none a)
+stage2-left a (Stage2Pass.Refused n) l = unless-any a (Ok 0) (Err n) ∙ sym (chosen (any a) (Err n) (Ok none))
 
 -- the same with the slot before it
 slot-left : (a : LevelRights) (on : Bool) (v : ℕ) (t : Stage2Pass) (l : Level) → v < 16
     → slot_left (level_bits a) on v (stage2_mask t) l ≡ level_mask (pass_level a on v t l)
 slot-left a on v t l h =
     rw (any-bits a, slot-bits a on v h, stage2-left (overlaid on (slot_rights v) a) t l)
-    (sym (chosen (on && leb 8 v && any a) (LevelAnswer.Refused 6) (after_stage2 (overlaid on (slot_rights v) a) t l)))
+    (sym (chosen (on && leb 8 v && any a) (Err ReservedCode) (after_stage2 (overlaid on (slot_rights v) a) t l)))
 
 -- a level with no base right has none, whatever the slot
 never : (a b : Bool) → (a && b && false) ≡ false
@@ -134,18 +135,18 @@ never true true = refl
 never true false = refl
 never false b = refl
 
-none_left : (t : Stage2Pass) (l : Level) → after_stage2 none t l ≡ LevelAnswer.Rights none
+none_left : (t : Stage2Pass) (l : Level) → after_stage2 none t l ≡ Ok none
 none_left (Stage2Pass.Granted g) l = refl
 none_left Stage2Pass.Nothing l = refl
 none_left (Stage2Pass.Refused n) l = refl
 
-none_passed : (on : Bool) (v : ℕ) (t : Stage2Pass) (l : Level) → pass_level none on v t l ≡ LevelAnswer.Rights none
+none_passed : (on : Bool) (v : ℕ) (t : Stage2Pass) (l : Level) → pass_level none on v t l ≡ Ok none
 none_passed on v t l = rw (never on (leb 8 v)) (none_left t l)
 
 -- the same with stage 1 as a whole
-pub mask-with : (o : LevelBits) (x : Stage1Pass) (v : ℕ) (t : Stage2Pass) (l : Level) → v < 16
-    → mask_with (bit_of o l) (stage1_mask x) v (stage2_mask t) l ≡ level_mask (pass_with o x v t l)
-mask-with o (Stage1Pass.Granted b) v t l h = rw (bits-base b l, applies-base b l) (slot-left (level_in b.rights l) (bit_of o l && bit_of b.overlay l) v t l h)
+pub mask-with : (o : PerLevel Bool) (x : Stage1Pass) (v : ℕ) (t : Stage2Pass) (l : Level) → v < 16
+    → mask_with (of_level o l) (stage1_mask x) v (stage2_mask t) l ≡ level_mask (pass_with o x v t l)
+mask-with o (Stage1Pass.Granted b) v t l h = rw (bits-base b l, applies-base b l) (slot-left (level_in b.rights l) (of_level o l && of_level b.overlay l) v t l h)
 mask-with o Stage1Pass.Nothing v t Privileged h =
     slot-left none (o.privileged && false) v t Privileged h ∙ ap level_mask (none_passed (o.privileged && false) v t Privileged)
 mask-with o Stage1Pass.Nothing v t Unprivileged h =
@@ -182,33 +183,33 @@ stage2-table e =
 
 -- a base answer as stage 1's
 pub from-base : (x : BaseAnswer) → stage1_mask (from_base x) ≡ base_mask x
-from-base (BaseAnswer.Granted b) = refl
-from-base (BaseAnswer.Refused n) = refl
+from-base (Ok b) = refl
+from-base (Err n) = refl
 
 -- a Direct leaf with no fault and no dirty state
 picked : (on fine indirect e f : Bool) (x y : BaseAnswer) (z : Stage1Pass) → on ≡ true → fine ≡ true → indirect ≡ false → f ≡ false
-    → cond on (cond fine (cond (cond indirect e f) (Stage1Pass.Refused 7) (from_base (cond indirect x y))) Stage1Pass.Nothing) z ≡ from_base y
+    → cond on (cond fine (cond (cond indirect e f) (Stage1Pass.Refused Unjudged) (from_base (cond indirect x y))) Stage1Pass.Nothing) z ≡ from_base y
 picked on fine indirect e f x y z p q r t = rw (p, q, r, t)
 
 pub stage1-direct : (s : Setup) (d : Stage1) (t : Limits)
     → s.control.stage1 ≡ true → (d.valid && d.af) ≡ true → s.control.indirect ≡ false → d.bit51 ≡ false
-    → stage1_mask (stage1_pass s d t) ≡ Granted (bit_or (six_mask (direct_of s.control d t)) 192)
+    → stage1_mask (stage1_pass s d t) ≡ Ok (bit_or (six_mask (direct_of s.control d t)) 192)
 unfolding stage1_pass base_of
 stage1-direct s d t on fine direct clean =
     ap stage1_mask (picked s.control.stage1 (d.valid && d.af) s.control.indirect d.bit7 d.bit51 (indirect_of s.control s.pir d.piindex) (direct_base s d t) _ on fine direct clean)
-    ∙ ap Granted (sym (all-overlaid (direct_of s.control d t)))
+    ∙ ap Ok (sym (all-overlaid (direct_of s.control d t)))
 
 -- stage 2 with no fault and no dirty state
 pub stage2-grants : (on : Bool) (d : Stage2) → on ≡ true → (d.valid && d.af) ≡ true → d.bit51 ≡ false
-    → stage2_mask (stage2_pass on d) ≡ Granted (six_mask (stage2_rights d))
+    → stage2_mask (stage2_pass on d) ≡ Ok (six_mask (stage2_rights d))
 unfolding stage2_pass
 stage2-grants on d h fine clean = rw (h, fine, clean)
 
 -- a range of answers as a range of masks
 range-with : (k : ℕ) (x y : LevelAnswer) → range_with k (level_mask x) (level_mask y) ≡ range_mask (range_from k x y)
-range-with k (LevelAnswer.Rights f) (LevelAnswer.Rights b) = refl
-range-with k (LevelAnswer.Rights f) (LevelAnswer.Refused n) = refl
-range-with k (LevelAnswer.Refused n) y = refl
+range-with k (Ok f) (Ok b) = refl
+range-with k (Ok f) (Err n) = refl
+range-with k (Err n) y = refl
 
 module _ (q : Words) where
   -- stage 1 before the overlay reads the control word and the PIRs alone
@@ -221,7 +222,7 @@ module _ (q : Words) where
 
   -- the pass that the code makes gives the answer of a level, with slot v of a register put in place of that level's POR
   pub put-masks : (d e t v r : ℕ) (l : Level) → v < 16 → slot_at r (po_index d) ≡ v
-      → mask_with (bit_of (control_of q.control).overlay l) (stage1_mask (stage1_pass first_setup (stage1_of d) (limits_of t))) v
+      → mask_with (of_level (control_of q.control).overlay l) (stage1_mask (stage1_pass first_setup (stage1_of d) (limits_of t))) v
       (stage2_mask (stage2_pass (bit q.control 2) (stage2_of e))) l
       ≡ level_mask (level_of (put (setup_from q) l r) (stage1_of d) (stage2_of e) (limits_of t) l)
   unfolding setup_from control_of stage1_of
@@ -234,8 +235,8 @@ module _ (q : Words) where
   -- what the planner asks of a level
   pub range-masks : (d e t : ℕ) (l : Level)
       → range_with (place_of (po_index d))
-      (mask_with (bit_of (control_of q.control).overlay l) (stage1_mask (stage1_pass first_setup (stage1_of d) (limits_of t))) 7 (stage2_mask (stage2_pass (bit q.control 2) (stage2_of e))) l)
-      (mask_with (bit_of (control_of q.control).overlay l) (stage1_mask (stage1_pass first_setup (stage1_of d) (limits_of t))) 0 (stage2_mask (stage2_pass (bit q.control 2) (stage2_of e))) l)
+      (mask_with (of_level (control_of q.control).overlay l) (stage1_mask (stage1_pass first_setup (stage1_of d) (limits_of t))) 7 (stage2_mask (stage2_pass (bit q.control 2) (stage2_of e))) l)
+      (mask_with (of_level (control_of q.control).overlay l) (stage1_mask (stage1_pass first_setup (stage1_of d) (limits_of t))) 0 (stage2_mask (stage2_pass (bit q.control 2) (stage2_of e))) l)
       ≡ range_mask (range_of (setup_from q) (stage1_of d) (stage2_of e) (limits_of t) l)
   unfolding range_of stage1_of
   range-masks d e t l =

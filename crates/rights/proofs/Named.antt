@@ -10,12 +10,10 @@ use lib.ListN.{get_or}
 use Rattle.records.proofs.Cases.{clash, at}
 use Rattle.records.specs.Access.{access_at, has_right}
 use Rattle.records.specs.Descriptor.{slot_at}
-use Rattle.records.specs.Setup.{bit_of, register_of}
+use Rattle.records.specs.Setup.{of_level}
 use Rattle.records.specs.Values.{check_if, check_then}
 use Rattle.records.specs.declared.access.Access.{Access}
 use Rattle.records.specs.declared.access.Right.{Right}
-use Rattle.records.specs.declared.check.Check.{Check}
-use Rattle.records.specs.declared.check.Check.TheVariants as check
 use Rattle.records.specs.declared.descriptor.Limits.{Limits}
 use Rattle.records.specs.declared.descriptor.Stage1.{Stage1}
 use Rattle.records.specs.declared.descriptor.Stage2.{Stage2}
@@ -29,14 +27,17 @@ use Rattle.rights.specs.Order.{stage1_if, stage2_if, leaf_answer, after_access, 
 use Rattle.rights.specs.Overlay.{slot_rights, slot_answer}
 use Rattle.rights.specs.Stage1.{dirty, reserved_base, unjudged_base, overlays_apply, base_answer, stage1_answer}
 use Rattle.rights.specs.Stage2.{stage2_answer}
-use Rattle.rights.specs.declared.answers.Answer.{Answer}
-use Rattle.rights.specs.declared.answers.Answer.TheVariants.{Permitted, Refused}
-use Rattle.rights.specs.declared.answers.Answer.TheVariants as answer
 use Rattle.rights.specs.declared.answers.Fault.{Fault}
 use Rattle.rights.specs.declared.answers.Kind.{Kind}
 use Rattle.rights.specs.declared.answers.Kind.TheVariants.{Translation, AccessFlag, Permission, Overlay}
-use Rattle.rights.specs.declared.checks.AccessCheck.TheVariants as access
 use Rattle.rights.proofs.Removers.{Removed, held, taken, base-removed, stage2-removed}
+use Rattle.std.specs.Prelude.{Ok, Err}
+use Rattle.records.specs.declared.refusal.Refusal.TheVariants.{ControlBits, Clash, WxnOrPan, UnknownAccess, LeafBits, ReservedCode, Unjudged}
+use Rattle.rights.specs.declared.answers.Stop.TheVariants.{Faulted, Refused}
+use Rattle.records.specs.Values.{Check}
+use Rattle.rights.specs.Answers.{Answer}
+use Rattle.records.specs.declared.refusal.Refusal.{Refusal}
+use Rattle.records.specs.Values.{refusal_number}
 
 -- the cause of a fault is one of the fourteen, and fixes its stage and kind
 abbrev pub Caused : Fault → Type 0
@@ -44,9 +45,9 @@ Caused g = (1 ≤ g.cause) × CauseFixes g.stage (kind_number g.kind) g.cause
 
 -- the answers that stage s has
 pub data Named (s : ℕ) : Answer → Type 0 where
-  permits : Named s Permitted
-  faults : (g : Fault) → g.stage ≡ s → Caused g → Named s (answer.Fault g)
-  refuses : (n : ℕ) → (6 ≤ n) × (n ≤ 7) → Named s (Refused n)
+  permits : Named s (Ok tt)
+  faults : (g : Fault) → g.stage ≡ s → Caused g → Named s (Err (Faulted g))
+  refuses : (n : Refusal) → (6 ≤ refusal_number n) × (refusal_number n ≤ 7) → Named s (Err (Refused n))
 
 follows : {s : ℕ} {x y : Answer} → Named s x → Named s y → Named s (follow x y)
 follows permits q = q
@@ -66,16 +67,16 @@ permission : {lo hi c : ℕ} {b : Bool} (s : ℕ) → ((n : ℕ) → lo ≤ n �
 permission s h held = permits
 permission s h (taken c (p, q)) = faults _ refl (h c p q)
 
-refusal : {s : ℕ} (b : Bool) (n : ℕ) → (6 ≤ n) × (n ≤ 7) → Named s (refuse_if b n)
+refusal : {s : ℕ} (b : Bool) (n : Refusal) → (6 ≤ refusal_number n) × (refusal_number n ≤ 7) → Named s (refuse_if b n)
 refusal true n h = refuses n h
 refusal false n h = permits
 
 descriptor : (s t a : ℕ) (v f d : Bool) → (1 ≤ t) × CauseFixes s 1 t → (1 ≤ a) × CauseFixes s 2 a → Named s (descriptor_answer s t a v f d)
-descriptor s t a v f d p q = follows (fault v s Translation t (λ e. p)) (follows (fault f s AccessFlag a (λ e. q)) (refusal d 7 (omega arith)))
+descriptor s t a v f d p q = follows (fault v s Translation t (λ e. p)) (follows (fault f s AccessFlag a (λ e. q)) (refusal d Unjudged (omega arith)))
 
 slot : (on : Bool) (v : ℕ) (r : Right) → Named 1 (slot_answer on v r)
 slot on v r =
-    picks on (follows (refusal (leb 8 v) 6 (omega arith)) (fault (has_right (slot_rights v) r) 1 Overlay 8 (λ e. (omega arith, (omega arith, refl))))) permits
+    picks on (follows (refusal (leb 8 v) ReservedCode (omega arith)) (fault (has_right (slot_rights v) r) 1 Overlay 8 (λ e. (omega arith, (omega arith, refl))))) permits
 
 back : (n k : ℕ) → k ≤ n → n ≡ n - k + k
 back n k h = omega arith
@@ -94,10 +95,10 @@ unfolding stage1_answer base_answer
 stage1-named s d t a =
     picks s.control.stage1
     (follows (descriptor 1 11 12 d.valid d.af (dirty s.control d) (omega arith, (omega arith, refl)) (omega arith, (omega arith, refl)))
-    (follows (refusal (reserved_base s d) 6 (omega arith))
-    (follows (refusal (unjudged_base s d) 7 (omega arith))
+    (follows (refusal (reserved_base s d) ReservedCode (omega arith))
+    (follows (refusal (unjudged_base s d) Unjudged (omega arith))
     (follows (permission 1 (λ n p q. (p, (omega arith, stage1-row n p q))) (base-removed s d t a))
-    (slot (bit_of s.control.overlay a.level && bit_of (overlays_apply s d) a.level) (slot_at (register_of s.por a.level) d.poindex) a.right)))))
+    (slot (of_level s.control.overlay a.level && of_level (overlays_apply s d) a.level) (slot_at (of_level s.por a.level) d.poindex) a.right)))))
     permits
 
 pub stage2-named : (s : Setup) (e : Stage2) (a : Access) → Named 2 (stage2_if s e a)
@@ -110,9 +111,9 @@ stage2-named s e a =
 
 -- the cause of an answer, 0 where there is no fault, fixes its stage and kind, 0 there too
 abbrev pub Fixed : Answer → Type 0
-Fixed Permitted = CauseFixes 0 0 0
-Fixed (answer.Fault g) = CauseFixes g.stage (kind_number g.kind) g.cause
-Fixed (Refused n) = CauseFixes 0 0 0
+Fixed (Ok u) = CauseFixes 0 0 0
+Fixed (Err (Faulted g)) = CauseFixes g.stage (kind_number g.kind) g.cause
+Fixed (Err (Refused n)) = CauseFixes 0 0 0
 
 pub cause-fixes : {s : ℕ} {x : Answer} → Named s x → Fixed x
 cause-fixes permits = (omega arith, refl)
@@ -120,41 +121,41 @@ cause-fixes (faults g e h) = h.1
 cause-fixes (refuses n h) = (omega arith, refl)
 
 -- the numbers of the checks
-pub setup-number : (c : Control) (k : ℕ) → setup_check c ≡ check.Refused k → (1 ≤ k) × (k ≤ 3)
+pub setup-number : (c : Control) (k : Refusal) → setup_check c ≡ Err k → (1 ≤ refusal_number k) × (refusal_number k ≤ 3)
 unfolding setup_check
 setup-number c k = go c.above (clashes c) (unjudged c)
   where
-    go : (x y z : Bool) → check_then (check_if x 1) (check_then (check_if y 2) (check_if z 3)) ≡ check.Refused k → (1 ≤ k) × (k ≤ 3)
-    go true y z e = let f : 1 ≡ k = cc in omega arith
-    go false true z e = let f : 2 ≡ k = cc in omega arith
-    go false false true e = let f : 3 ≡ k = cc in omega arith
+    go : (x y z : Bool) → check_then (check_if x ControlBits) (check_then (check_if y Clash) (check_if z WxnOrPan)) ≡ Err k → (1 ≤ refusal_number k) × (refusal_number k ≤ 3)
+    go true y z e = let f : ControlBits ≡ k = cc in rw (← f) (omega arith, omega arith)
+    go false true z e = let f : Clash ≡ k = cc in rw (← f) (omega arith, omega arith)
+    go false false true e = let f : WxnOrPan ≡ k = cc in rw (← f) (omega arith, omega arith)
     go false false false e = clash (cc)
 
-pub leaf-number : (f : Leaf) (k : ℕ) → leaf_check f ≡ check.Refused k → k ≡ 5
+pub leaf-number : (f : Leaf) (k : Refusal) → leaf_check f ≡ Err k → k ≡ LeafBits
 unfolding leaf_check
 leaf-number f k = go (ltb 15 f.limits || ltb 63 f.forbidden)
   where
-    go : (x : Bool) → check_if x 5 ≡ check.Refused k → k ≡ 5
+    go : (x : Bool) → check_if x LeafBits ≡ Err k → k ≡ LeafBits
     go true e = cc
     go false e = clash (cc)
 
 -- 1 to 5 refuse the access, or the stages answer it
 abbrev Either : Setup → Leaf → ℕ → Answer → Type 0
-Either s f n x = ((k : ℕ) × (x ≡ Refused k)) ⊎ (x ≡ leaf_answer s f (access_at n))
+Either s f n x = ((k : Refusal) × (x ≡ (Err (Refused k)))) ⊎ (x ≡ leaf_answer s f (access_at n))
 
 after_check : (s : Setup) (f : Leaf) (n : ℕ) (y : Check) (x : Answer) → Either s f n x → Either s f n (follow (answer_of y) x)
-after_check s f n check.Passes x h = h
-after_check s f n (check.Refused k) x h = inl (k, refl)
+after_check s f n (Ok u) x h = h
+after_check s f n (Err k) x h = inl (k, refl)
 
 after-access : (s : Setup) (f : Leaf) (n : ℕ) (two : Bool) → Either s f n (after_access s f (access_check two n))
 unfolding access_check
 after-access s f n two = go (leb n (cond two 5 2))
   where
-    go : (b : Bool) → Either s f n (after_access s f (cond b (access.Known (access_at n)) (access.Refused 4)))
+    go : (b : Bool) → Either s f n (after_access s f (cond b (Ok (access_at n)) (Err UnknownAccess)))
     go true = after_check s f n (leaf_check f) (leaf_answer s f (access_at n)) (inr refl)
-    go false = inl (4, refl)
+    go false = inl (UnknownAccess, refl)
 
 pub stages-answer : (s : Setup) (f : Leaf) (n : ℕ)
-    → ((k : ℕ) × (rights_answer s f n ≡ Refused k)) ⊎ (rights_answer s f n ≡ leaf_answer s f (access_at n))
+    → ((k : Refusal) × (rights_answer s f n ≡ (Err (Refused k)))) ⊎ (rights_answer s f n ≡ leaf_answer s f (access_at n))
 unfolding rights_answer
 stages-answer s f n = after_check s f n (setup_check s.control) _ (after-access s f n s.control.two)

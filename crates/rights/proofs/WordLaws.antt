@@ -10,7 +10,7 @@ use lib.ListN.{length, get_or}
 use Rattle.records.proofs.Cases.{Tree, tree, each}
 use Rattle.records.specs.Access.{access_of, six, has, has_right}
 use Rattle.records.specs.Descriptor.{code_at, slot_at}
-use Rattle.records.specs.Setup.{bit_of, register_of}
+use Rattle.records.specs.Setup.{of_level}
 use Rattle.records.specs.declared.access.Access.{Access}
 use Rattle.records.specs.declared.access.Level.{Level}
 use Rattle.records.specs.declared.access.Level.TheVariants.{Privileged, Unprivileged}
@@ -20,7 +20,7 @@ use Rattle.records.specs.declared.access.Rights.{Rights}
 use Rattle.records.specs.declared.descriptor.Limits.{Limits}
 use Rattle.records.specs.declared.descriptor.Stage1.{Stage1}
 use Rattle.records.specs.declared.descriptor.Stage2.{Stage2}
-use Rattle.records.specs.declared.setup.LevelBits.{LevelBits}
+use Rattle.records.specs.declared.setup.PerLevel.{PerLevel}
 use Rattle.records.specs.declared.setup.Setup.{Setup}
 use Rattle.rights.specs.Answers.{follow, fault_unless, refuse_if, descriptor_answer}
 use Rattle.rights.specs.Direct.{ap as ap_of, ap_one, limited, ap_table, execute_never, unprivileged_write, wxn, pan, direct_steps}
@@ -34,12 +34,13 @@ use Rattle.rights.specs.Overlay.{slot_rights, slot_answer, overlay_answer}
 use Rattle.rights.specs.Stage1.{dirty, base_rights, base_cause, base_answer, stage1_answer}
 use Rattle.rights.specs.Stage2.{xn_px, xn_ux, stage2_rights, stage2_cause, stage2_answer}
 use Rattle.rights.specs.Steps.{Step, step, fixed, everything, left_after, first_remover}
-use Rattle.rights.specs.declared.answers.Answer.{Answer}
 use Rattle.rights.specs.declared.indirect.Code.{Code}
-use Rattle.rights.specs.declared.indirect.Codes.{Codes}
-use Rattle.rights.specs.declared.answers.Answer.TheVariants.{Permitted, Fault, Refused}
 use Rattle.rights.specs.declared.answers.Kind.{Kind}
 use Rattle.rights.specs.declared.answers.Kind.TheVariants.{Permission, Overlay}
+use Rattle.std.specs.Prelude.{Ok, Err}
+use Rattle.records.specs.declared.refusal.Refusal.TheVariants.{ReservedCode, Unjudged}
+use Rattle.rights.specs.declared.answers.Stop.TheVariants.{Faulted, Refused}
+use Rattle.rights.specs.Answers.{Answer}
 
 -- a rule over truth values at every access, computed
 abbrev trees : {A : Type 0} → ℕ → (Level → Right → List Bool → A) → List (Tree A)
@@ -62,9 +63,9 @@ at-access {A} m f g e l x = each m (f l x) (g l x) (pick l x)
     pick Unprivileged Execute = ap (nth 5) e
 
 follow-follow : (a b c : Answer) → follow (follow a b) c ≡ follow a (follow b c)
-follow-follow Permitted b c = refl
-follow-follow (Fault g) b c = refl
-follow-follow (Refused n) b c = refl
+follow-follow (Ok u) b c = refl
+follow-follow (Err (Faulted g)) b c = refl
+follow-follow (Err (Refused n)) b c = refl
 
 -- a step that faults unless k, before what follows
 fault-step : (k : Bool) (s : ℕ) (κ : Kind) (n : ℕ) (y : Answer) (r p : Bool) (c : ℕ) → Agrees y r p c
@@ -89,14 +90,14 @@ slot_step false v Write y r p c h = h
 slot_step false v Execute y r p c h = h
 slot_step true v x y r p c h = go (leb 8 v) (has_right (slot_rights v) x)
   where
-    go : (b g : Bool) → Agrees (follow (follow (refuse_if b 6) (fault_unless g 1 Overlay 8)) y) (b || ((not b && g) && r)) ((not b && g) && p) (cond (not b && g) c 8)
+    go : (b g : Bool) → Agrees (follow (follow (refuse_if b ReservedCode) (fault_unless g 1 Overlay 8)) y) (b || ((not b && g) && r)) ((not b && g) && p) (cond (not b && g) c 8)
     go true g = refl
     go false true = h
     go false false = (refl, refl, refl)
 
 -- base codes and what they refuse, where `bad` is that one of two refusals is met
 codes-step : (x y bad k : Bool) (n : ℕ) (z : Answer) (r p : Bool) (c : ℕ) → (x || y) ≡ bad → Agrees z r p c
-    → Agrees (follow (refuse_if x 6) (follow (refuse_if y 7) (follow (fault_unless k 1 Permission n) z))) (bad || (k && r)) (k && p) (cond k c n)
+    → Agrees (follow (refuse_if x ReservedCode) (follow (refuse_if y Unjudged) (follow (fault_unless k 1 Permission n) z))) (bad || (k && r)) (k && p) (cond k c n)
 codes-step true y bad k n z r p c e h = rw (← e)
 codes-step false true bad k n z r p c e h = rw (← e)
 codes-step false false bad k n z r p c e h = rw (← e) (fault-step k 1 Permission n z r p c h)
@@ -119,7 +120,7 @@ stage2-fault l x r w px ux = at-access (r ∷ w ∷ px ∷ ux ∷ []) f g refl l
         fault_unless (has (six (get_or m 0 false) (get_or m 1 false) (get_or m 2 false) (get_or m 0 false) (get_or m 1 false) (get_or m 3 false)) (access_of l x)) 2 Permission (cond (executes x) 10 9)
 
 stage2-agrees : (on : Bool) (e : Stage2) (l : Level) (x : Right) → let w = stage2_word on e in let a = access_of l x in
-    Agrees (cond on (stage2_answer e a) Permitted) (w.meets a) (w.right a) (w.cause a)
+    Agrees (cond on (stage2_answer e a) (Ok tt)) (w.meets a) (w.right a) (w.cause a)
 unfolding stage2_answer stage2_rights stage2_cause
 stage2-agrees false e l x = (refl, refl, refl)
 stage2-agrees true e l x =
@@ -144,13 +145,13 @@ slots-agrees s d p u w y l x h = rw (low s.por.privileged, low s.por.unprivilege
         cond (b || c) (joined (slot_part Privileged (cond (b && p) (slot_at s.por.privileged d.poindex) 7))
         (joined (slot_part Unprivileged (cond (c && u) (slot_at s.por.unprivileged d.poindex) 7)) w)) w
 
-    step_of : (l : Level) (on : Bool) → let a = access_of l x in let v = slot_at (register_of s.por l) d.poindex in Agrees y (w.meets a) (w.right a) (w.cause a)
+    step_of : (l : Level) (on : Bool) → let a = access_of l x in let v = slot_at (of_level s.por l) d.poindex in Agrees y (w.meets a) (w.right a) (w.cause a)
         → let k = not (leb 8 (cond on v 7)) && has_right (slot_rights (cond on v 7)) x in
         Agrees (follow (slot_answer on v x) y) (leb 8 (cond on v 7) || (k && w.meets a)) (k && w.right a) (cond k (w.cause a) 8)
-    step_of l on h = slot_step on (slot_at (register_of s.por l) d.poindex) x y (w.meets (access_of l x)) (w.right (access_of l x)) (w.cause (access_of l x)) h
+    step_of l on h = slot_step on (slot_at (of_level s.por l) d.poindex) x y (w.meets (access_of l x)) (w.right (access_of l x)) (w.cause (access_of l x)) h
 
     go : (b c : Bool) (l : Level) → let z = slots b c in let a = access_of l x in Agrees y (w.meets a) (w.right a) (w.cause a)
-        → Agrees (follow (slot_answer (bit_of (record { privileged = b; unprivileged = c }) l && bit_of (record { privileged = p; unprivileged = u }) l) (slot_at (register_of s.por l) d.poindex) x) y)
+        → Agrees (follow (slot_answer (of_level (record { privileged = b; unprivileged = c }) l && of_level (record { privileged = p; unprivileged = u }) l) (slot_at (of_level s.por l) d.poindex) x) y)
         (z.meets a) (z.right a) (z.cause a)
     go false false Privileged h = h
     go false false Unprivileged h = h
@@ -298,7 +299,7 @@ module _ (s : Setup) (d : Stage1) (t : Limits) (l : Level) (x : Right) (y : Answ
   abbrev a : Access
   a = access_of l x
 
-  abbrev both : LevelBits
+  abbrev both : PerLevel Bool
   both = record { privileged = true; unprivileged = true }
 
   -- Direct, where the overlay applies at both levels
@@ -339,7 +340,7 @@ module _ (s : Setup) (d : Stage1) (t : Limits) (l : Level) (x : Right) (y : Answ
     abbrev cu : Code
     cu = code_of (code_at s.pir.unprivileged d.piindex)
 
-    abbrev pair : Codes
+    abbrev pair : PerLevel Code
     pair = record { privileged = cp; unprivileged = cu }
 
     abbrev grants_by : Bool → List Step
@@ -395,7 +396,7 @@ module _ (s : Setup) (d : Stage1) (t : Limits) (l : Level) (x : Right) (y : Answ
         go false = codes-refused false cp.reserved cp.unjudged cp.execute cu.reserved cu.unjudged cu.write
 
     indirect-agrees : (two : Bool) → let z = codes_of two in
-        Agrees (follow (follow (refuse_if (reserved_code two pair) 6) (follow (refuse_if (unjudged_code two pair) 7)
+        Agrees (follow (follow (refuse_if (reserved_code two pair) ReservedCode) (follow (refuse_if (unjudged_code two pair) Unjudged)
         (follow (fault_unless (has (left_after everything (grants_by two)) a) 1 Permission (first_remover a everything (grants_by two))) (overlay_answer s d (code_overlays pair) a)))) y)
         (refuses_in z a) (z.right a) (z.cause a)
     indirect-agrees two =
@@ -409,11 +410,11 @@ module _ (s : Setup) (d : Stage1) (t : Limits) (l : Level) (x : Right) (y : Answ
         rw (code-overlay (code_at s.pir.privileged d.piindex), code-overlay (code_at s.pir.unprivileged d.piindex), low s.pir.privileged, low s.pir.unprivileged)
         (slots-agrees s d (ltb (code_at s.pir.privileged d.piindex) 8) (ltb (code_at s.pir.unprivileged d.piindex) 8) w y l x h) in
         rw (
-          follow-follow (refuse_if (reserved_code two pair) 6) (follow (refuse_if (unjudged_code two pair) 7) (follow (fault_unless g 1 Permission n) v)) y,
-          follow-follow (refuse_if (unjudged_code two pair) 7) (follow (fault_unless g 1 Permission n) v) y,
+          follow-follow (refuse_if (reserved_code two pair) ReservedCode) (follow (refuse_if (unjudged_code two pair) Unjudged) (follow (fault_unless g 1 Permission n) v)) y,
+          follow-follow (refuse_if (unjudged_code two pair) Unjudged) (follow (fault_unless g 1 Permission n) v) y,
           follow-follow (fault_unless g 1 Permission n) v y,
         )
-        (same-lane (follow (refuse_if (reserved_code two pair) 6) (follow (refuse_if (unjudged_code two pair) 7) (follow (fault_unless g 1 Permission n) (follow v y)))) _ _ _ _ _ _
+        (same-lane (follow (refuse_if (reserved_code two pair) ReservedCode) (follow (refuse_if (unjudged_code two pair) Unjudged) (follow (fault_unless g 1 Permission n) (follow v y)))) _ _ _ _ _ _
         (ap (λ (m : Bool). refused_codes (codes_of two) || m) (kept (o.meets a))) (kept (o.right a)) (one-cause g ((code_part Privileged cp).keeps a) ((code_part Unprivileged (counts two)).keeps a) (o.cause a) n (kept_by two) refl)
         (codes-step (reserved_code two pair) (unjudged_code two pair) (refused_codes (codes_of two)) g n (follow v y) (o.meets a) (o.right a) (o.cause a) (refused-by two) overlaid))
       where
@@ -438,7 +439,7 @@ module _ (s : Setup) (d : Stage1) (t : Limits) (l : Level) (x : Right) (y : Answ
         steps i = cond i (grants_by s.control.two) (direct_steps s.control d t)
 
         go : (i : Bool)
-            → Agrees (follow (follow (refuse_if (i && reserved_code s.control.two pair) 6) (follow (refuse_if (i && unjudged_code s.control.two pair) 7)
+            → Agrees (follow (follow (refuse_if (i && reserved_code s.control.two pair) ReservedCode) (follow (refuse_if (i && unjudged_code s.control.two pair) Unjudged)
             (follow (fault_unless (has (left_after everything (steps i)) a) 1 Permission (first_remover a everything (steps i))) (overlay_answer s d (cond i (code_overlays pair) both) a)))) y)
             (refuses_in (cond i indirect direct) a) ((cond i indirect direct).right a) ((cond i indirect direct).cause a)
         go true = rw (low s.pir.privileged) (indirect-agrees s.control.two)
@@ -475,7 +476,7 @@ word-law s d e t l x = go s.control.stage1
     answer = follow (descriptor_answer 1 11 12 d.valid d.af (dirty s.control d)) (base_answer s d t (access_of l x))
 
     go : (on : Bool) → let w = cond on first (joined off_part second) in let a = access_of l x in
-        Agrees (follow (cond on answer Permitted) (stage2_if s e a)) (refuses_in w a) (w.right a) (w.cause a)
+        Agrees (follow (cond on answer (Ok tt)) (stage2_if s e a)) (refuses_in w a) (w.right a) (w.cause a)
     go false = stage2-agrees s.control.stage2 e l x
     go true =
         rw (follow-follow (descriptor_answer 1 11 12 d.valid d.af (dirty s.control d)) (base_answer s d t (access_of l x)) (stage2_if s e (access_of l x)))

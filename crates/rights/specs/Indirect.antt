@@ -4,10 +4,8 @@ use Rattle.records.specs.Access.{six}
 use Rattle.records.specs.Descriptor.{code_at}
 use Rattle.records.specs.declared.access.Rights.{Rights}
 use Rattle.records.specs.declared.descriptor.index.PIIndex.{PIIndex}
-use Rattle.records.specs.declared.setup.LevelBits.{LevelBits}
-use Rattle.records.specs.declared.setup.LevelRegisters.{LevelRegisters}
+use Rattle.records.specs.declared.setup.PerLevel.{PerLevel}
 use Rattle.rights.specs.declared.indirect.Code.{Code}
-use Rattle.rights.specs.declared.indirect.Codes.{Codes}
 
 -- what a code says: a form that is not judged, reserved, or the rights R, W and X that it grants
 pub data Meaning : Type 0 where
@@ -51,24 +49,24 @@ unfoldable pub code_of : ℕ → Code
 code_of n = fields (get_or meanings (n % 16) reserved) (ltb (n % 16) 8)
 
 -- the codes at PIIndex in PIR privileged and in PIR unprivileged
-unfoldable pub codes_at : LevelRegisters → PIIndex → Codes
+unfoldable pub codes_at : PerLevel ℕ → PIIndex → PerLevel Code
 codes_at pir i = record { privileged = code_of (code_at pir.privileged i); unprivileged = code_of (code_at pir.unprivileged i) }
 
 -- 6: a reserved code at either level. With one level the unprivileged code is not read, here and below
-abbrev pub reserved_code : Bool → Codes → Bool
+abbrev pub reserved_code : Bool → PerLevel Code → Bool
 reserved_code two k = k.privileged.reserved || two && k.unprivileged.reserved
 
 -- 7: code 6 at either level, or px together with uw
-abbrev pub unjudged_code : Bool → Codes → Bool
+abbrev pub unjudged_code : Bool → PerLevel Code → Bool
 unjudged_code two k =
     k.privileged.unjudged || two && k.unprivileged.unjudged || k.privileged.execute && (two && k.unprivileged.write)
 
 -- the rights of both codes; with one level the unprivileged ones are off
-abbrev pub code_rights : Bool → Codes → Rights
+abbrev pub code_rights : Bool → PerLevel Code → Rights
 code_rights two k =
     six k.privileged.read k.privileged.write k.privileged.execute
     (two && k.unprivileged.read) (two && k.unprivileged.write) (two && k.unprivileged.execute)
 
 -- whether overlays apply, at each level
-abbrev pub code_overlays : Codes → LevelBits
+abbrev pub code_overlays : PerLevel Code → PerLevel Bool
 code_overlays k = record { privileged = k.privileged.overlay; unprivileged = k.unprivileged.overlay }

@@ -6,15 +6,16 @@ use Rattle.records.specs.declared.access.Rights.{Rights}
 use Rattle.records.specs.declared.descriptor.Limits.{Limits}
 use Rattle.records.specs.declared.descriptor.Stage1.{Stage1}
 use Rattle.records.specs.declared.setup.Control.{Control}
-use Rattle.records.specs.declared.setup.LevelBits.{LevelBits}
+use Rattle.records.specs.declared.setup.PerLevel.{PerLevel}
 use Rattle.records.specs.declared.setup.Setup.{Setup}
 use Rattle.rights.specs.Answers.{follow, fault_unless, refuse_if, descriptor_answer}
 use Rattle.rights.specs.Direct.{direct_steps}
 use Rattle.rights.specs.Indirect.{codes_at, reserved_code, unjudged_code, code_rights, code_overlays}
 use Rattle.rights.specs.Overlay.{overlay_answer}
 use Rattle.rights.specs.Steps.{Step, fixed, everything, left_after, first_remover}
-use Rattle.rights.specs.declared.answers.Answer.{Answer}
 use Rattle.rights.specs.declared.answers.Kind.TheVariants.{Permission}
+use Rattle.records.specs.declared.refusal.Refusal.TheVariants.{ReservedCode, Unjudged}
+use Rattle.rights.specs.Answers.{Answer}
 
 -- dirty state at stage 1: bit 51 set under Direct, bit 7 under Indirect
 abbrev pub dirty : Control → Stage1 → Bool
@@ -40,15 +41,15 @@ unfoldable pub base_cause : Setup → Stage1 → Limits → Access → ℕ
 base_cause s d t a = first_remover a everything (base_steps s d t)
 
 -- overlays apply to Direct leaves, and to codes 0 to 7
-abbrev pub overlays_apply : Setup → Stage1 → LevelBits
+abbrev pub overlays_apply : Setup → Stage1 → PerLevel Bool
 overlays_apply s d =
     cond s.control.indirect (code_overlays (codes_at s.pir d.piindex)) (record { privileged = true; unprivileged = true })
 
 -- base codes 6, then 7; Permission fault, with the first remover as its cause; overlay code 6; Overlay fault
 unfoldable pub base_answer : Setup → Stage1 → Limits → Access → Answer
 base_answer s d t a =
-    follow (refuse_if (reserved_base s d) 6)
-    (follow (refuse_if (unjudged_base s d) 7)
+    follow (refuse_if (reserved_base s d) ReservedCode)
+    (follow (refuse_if (unjudged_base s d) Unjudged)
     (follow (fault_unless (has (base_rights s d t) a) 1 Permission (base_cause s d t a))
     (overlay_answer s d (overlays_apply s d) a)))
 

@@ -6,8 +6,8 @@ use Rattle.records.specs.declared.access.Rights.{Rights}
 use Rattle.records.specs.declared.descriptor.Stage2.{Stage2}
 use Rattle.rights.specs.Answers.{follow, fault_unless, descriptor_answer}
 use Rattle.rights.specs.Steps.{Step, fixed, everything, left_after, first_remover}
-use Rattle.rights.specs.declared.answers.Answer.{Answer}
 use Rattle.rights.specs.declared.answers.Kind.TheVariants.{Permission}
+use Rattle.rights.specs.Answers.{Answer}
 
 -- XN 00: px ux; 01: ux; 10: neither; 11: px
 unfoldable pub xn_px : ℕ → Bool

@@ -1,10 +1,11 @@
 // Answers of the rights layer (document 01, 'Numbers for no'), and the first steps of both stages. No public function has a `requires`.
-ghost use Rattle.std.specs.Prelude.{◌≡◌};
-ghost use Rattle.rights.specs.Answers.{fault_unless, refuse_if, answer_of, descriptor_answer};
+ghost use Rattle.std.specs.Prelude.{◌≡◌, Err};
+ghost use Rattle.rights.specs.Answers.{fault_unless, descriptor_answer};
+ghost use Rattle.rights.specs.declared.answers.Stop.TheVariants.{Refused};
 
-use records::check::Check;
+use records::refusal::{Refusal, check_if};
 
-#[derive(Clone, Copy)]
+#[derive(Clone, Copy, PartialEq, Eq, Debug)]
 pub enum Kind {
     Translation,
     AccessFlag,
@@ -12,7 +13,7 @@ pub enum Kind {
     Overlay,
 }
 
-#[derive(Clone, Copy)]
+#[derive(Clone, Copy, PartialEq, Eq, Debug)]
 pub struct Fault {
     pub stage: u8,
     pub kind: Kind,
@@ -20,41 +21,29 @@ pub struct Fault {
     pub cause: u8,
 }
 
-// Permitted so far, a fault, or a refusal's number.
-#[derive(Clone, Copy)]
-pub enum Answer {
-    Permitted,
-    Fault(Fault),
-    Refused(u8),
+// Why an access is not allowed.
+#[derive(Clone, Copy, PartialEq, Eq, Debug)]
+pub enum Stop {
+    Faulted(Fault),
+    Refused(Refusal),
+}
+
+impl From<Refusal> for Stop {
+    ghost from_gives = { λ r s. s ≡ Refused r };
+
+    fn from(refusal: Refusal) -> Stop {
+        Stop::Refused(refusal)
+    }
 }
 
 // Every fault is made here.
-pub(crate) fn fault_unless(ok: bool, stage: u8, kind: Kind, cause: u8) -> Answer
+pub(crate) fn fault_unless(ok: bool, stage: u8, kind: Kind, cause: u8) -> Result<(), Stop>
     ensures { result ≡ fault_unless ok stage kind cause }
 {
     if ok {
-        return Answer::Permitted;
+        return Ok(());
     }
-    Answer::Fault(Fault { stage, kind, cause })
-}
-
-pub(crate) fn refuse_if(bad: bool, number: u8) -> Answer
-    ensures { result ≡ refuse_if bad number }
-{
-    if bad {
-        return Answer::Refused(number);
-    }
-    Answer::Permitted
-}
-
-// A check as an answer.
-pub(crate) fn answer_of(c: Check) -> Answer
-    ensures { result ≡ answer_of c }
-{
-    match c {
-        Check::Refused(n) => Answer::Refused(n),
-        Check::Passes => Answer::Permitted,
-    }
+    Err(Stop::Faulted(Fault { stage, kind, cause }))
 }
 
 // The first steps of a stage, with the causes of its Translation fault and its Access flag fault.
@@ -65,16 +54,11 @@ pub(crate) fn descriptor_answer(
     valid: bool,
     af: bool,
     dirty: bool,
-) -> Answer
+) -> Result<(), Stop>
     ensures { result ≡ descriptor_answer stage translation flag valid af dirty }
 {
-    let first = fault_unless(valid, stage, Kind::Translation, translation);
-    let Answer::Permitted = first else {
-        return first;
-    };
-    let second = fault_unless(af, stage, Kind::AccessFlag, flag);
-    let Answer::Permitted = second else {
-        return second;
-    };
-    refuse_if(dirty, 7)
+    fault_unless(valid, stage, Kind::Translation, translation)?;
+    fault_unless(af, stage, Kind::AccessFlag, flag)?;
+    check_if(dirty, Refusal::Unjudged)?;
+    Ok(())
 }

@@ -5,7 +5,7 @@ ghost use Rattle.rights.specs.Mirror.BaseMasks.{codes};
 
 use records::access::Rights;
 use records::descriptor::index::PIIndex;
-use records::setup::{LevelBits, LevelRegisters};
+use records::setup::PerLevel;
 
 // What a base code means.
 #[derive(Clone, Copy)]
@@ -18,13 +18,6 @@ pub(crate) struct Code {
     pub reserved: bool,
     // A permission form that is not judged yet.
     pub unjudged: bool,
-}
-
-// The codes of both levels.
-#[derive(Clone, Copy)]
-pub(crate) struct Codes {
-    pub privileged: Code,
-    pub unprivileged: Code,
 }
 
 // The bits of an entry of `CODES`.
@@ -85,24 +78,24 @@ fn base_code(n: u8) -> Code
 
 // The codes at a PIIndex of both PIRs.
 #[tactic(auto, unfolding(crate::specs::Indirect::codes_at))]
-pub(crate) fn codes_at(pir: LevelRegisters, i: PIIndex) -> Codes
+pub(crate) fn codes_at(pir: PerLevel<u64>, i: PIIndex) -> PerLevel<Code>
     ensures { result ≡ codes_at pir i }
 {
-    Codes {
+    PerLevel {
         privileged: base_code(i.code(pir.privileged)),
         unprivileged: base_code(i.code(pir.unprivileged)),
     }
 }
 
 // 6: a reserved code.
-pub(crate) fn reserved_code(two: bool, k: Codes) -> bool
+pub(crate) fn reserved_code(two: bool, k: PerLevel<Code>) -> bool
     ensures { result ≡ reserved_code two k }
 {
     k.privileged.reserved | two & k.unprivileged.reserved
 }
 
 // 7: a form that is not judged.
-pub(crate) fn unjudged_code(two: bool, k: Codes) -> bool
+pub(crate) fn unjudged_code(two: bool, k: PerLevel<Code>) -> bool
     ensures { result ≡ unjudged_code two k }
 {
     k.privileged.unjudged
@@ -111,7 +104,7 @@ pub(crate) fn unjudged_code(two: bool, k: Codes) -> bool
 }
 
 // The rights of both codes.
-pub(crate) fn code_rights(two: bool, k: Codes) -> Rights
+pub(crate) fn code_rights(two: bool, k: PerLevel<Code>) -> Rights
     ensures { result ≡ code_rights two k }
 {
     Rights {
@@ -125,10 +118,10 @@ pub(crate) fn code_rights(two: bool, k: Codes) -> Rights
 }
 
 // Where overlays apply.
-pub(crate) fn code_overlays(k: Codes) -> LevelBits
+pub(crate) fn code_overlays(k: PerLevel<Code>) -> PerLevel<bool>
     ensures { result ≡ code_overlays k }
 {
-    LevelBits {
+    PerLevel {
         privileged: k.privileged.overlay,
         unprivileged: k.unprivileged.overlay,
     }

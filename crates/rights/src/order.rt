@@ -1,51 +1,48 @@
 // One access, step by step (document 01, 'The order a judgement is made in'): the first fault or refusal is the answer. The public function
 // has no `requires`.
-ghost use Rattle.std.specs.Prelude.{◌≡◌, cond};
-ghost use Rattle.rights.specs.Order.{stages_answer, leaf_answer, access_refusal, rights_answer};
+ghost use Rattle.std.specs.Prelude.{◌≡◌, cond, Ok};
+ghost use Rattle.rights.specs.Order.{stages_answer, leaf_answer, rights_answer};
 ghost use Rattle.rights.specs.Stage1.{stage1_answer};
 ghost use Rattle.rights.specs.Stage2.{stage2_answer};
 
-use crate::answers::{Answer, answer_of};
-use crate::checks::{AccessCheck, check_access, check_leaf, check_setup};
+use crate::answers::Stop;
+use crate::checks::{check_access, check_leaf, check_setup};
 use crate::stage1::stage1_answer;
 use crate::stage2::stage2_answer;
 use records::access::Access;
-use records::check::Check;
 use records::descriptor::{Limits, Stage1, Stage2};
 use records::leaf::Leaf;
 use records::setup::Setup;
 
 // A stage that is off permits everything.
-fn stage1_if_on(s: Setup, d: Stage1, t: Limits, a: Access) -> Answer
-    ensures { result ≡ cond s.control.stage1 (stage1_answer s d t a) Answer.Permitted }
+fn stage1_if_on(s: Setup, d: Stage1, t: Limits, a: Access) -> Result<(), Stop>
+    ensures { result ≡ cond s.control.stage1 (stage1_answer s d t a) (Ok tt) }
 {
     if s.control.stage1 {
         return stage1_answer(s, d, t, a);
     }
-    Answer::Permitted
+    Ok(())
 }
 
-fn stage2_if_on(on: bool, e: Stage2, a: Access) -> Answer
-    ensures { result ≡ cond on (stage2_answer e a) Answer.Permitted }
+fn stage2_if_on(on: bool, e: Stage2, a: Access) -> Result<(), Stop>
+    ensures { result ≡ cond on (stage2_answer e a) (Ok tt) }
 {
     if on {
         return stage2_answer(e, a);
     }
-    Answer::Permitted
+    Ok(())
 }
 
 // Both stages of an access: no check comes before them.
-fn judge_stages(s: Setup, d: Stage1, e: Stage2, t: Limits, a: Access) -> Answer
+#[tactic(auto, unfolding(crate::specs::Order::stages_answer))]
+fn judge_stages(s: Setup, d: Stage1, e: Stage2, t: Limits, a: Access) -> Result<(), Stop>
     ensures { result ≡ stages_answer s d e t a }
 {
-    let first = stage1_if_on(s, d, t, a);
-    let Answer::Permitted = first else {
-        return first;
-    };
+    stage1_if_on(s, d, t, a)?;
     stage2_if_on(s.control.stage2, e, a)
 }
 
-fn judge_leaf(s: Setup, f: Leaf, a: Access) -> Answer
+fn judge_leaf(s: Setup, f: Leaf, a: Access) -> Result<(), Stop>
     ensures { result ≡ leaf_answer s f a }
 {
     let d = records::descriptor::read_stage1(f.stage1);
@@ -54,32 +51,14 @@ fn judge_leaf(s: Setup, f: Leaf, a: Access) -> Answer
     judge_stages(s, d, e, t, a)
 }
 
-fn access_refusal(a: AccessCheck) -> Answer
-    ensures { result ≡ access_refusal a }
-{
-    match a {
-        AccessCheck::Refused(n) => Answer::Refused(n),
-        AccessCheck::Known(_) => Answer::Permitted,
-    }
-}
-
-// 1 to 5, then both stages: `Permitted` exactly where the order reaches the attribute steps.
+// 1 to 5, then both stages: `Ok` exactly where the order reaches the attribute steps.
 #[tactic(auto, unfolding(crate::specs::Order::rights_answer))]
-pub fn judge_rights(s: Setup, f: Leaf, n: u64) -> Answer
+pub fn judge_rights(s: Setup, f: Leaf, n: u64) -> Result<(), Stop>
     ensures { result ≡ rights_answer s f n }
 {
     let c = s.control;
-    let setup = check_setup(c);
-    let Check::Passes = setup else {
-        return answer_of(setup);
-    };
-    let access = check_access(c.two, n);
-    let AccessCheck::Known(a) = access else {
-        return access_refusal(access);
-    };
-    let leaf = check_leaf(f);
-    let Check::Passes = leaf else {
-        return answer_of(leaf);
-    };
+    check_setup(c)?;
+    let a = check_access(c.two, n)?;
+    check_leaf(f)?;
     judge_leaf(s, f, a)
 }

@@ -2,10 +2,11 @@
 ghost use Rattle.std.specs.Prelude.{◌≡◌};
 ghost use Rattle.rights.specs.Overlay.{slot_rights, slot_answer, overlay_answer};
 
-use crate::answers::{Answer, Kind, fault_unless, refuse_if};
+use crate::answers::{Kind, Stop, fault_unless};
 use records::access::{Access, LevelRights, Right, has_right};
 use records::descriptor::Stage1;
-use records::setup::{LevelBits, Setup, bit_of, register_of};
+use records::refusal::{Refusal, check_if};
+use records::setup::{PerLevel, Setup};
 
 // What an overlay slot grants: bit 0 R, bit 1 X, bit 2 W.
 fn slot_rights(v: u8) -> LevelRights
@@ -19,28 +20,27 @@ fn slot_rights(v: u8) -> LevelRights
 }
 
 // The overlay where it is on and applies: a reserved slot, then an Overlay fault.
-fn slot_answer(on: bool, v: u8, r: Right) -> Answer
+fn slot_answer(on: bool, v: u8, r: Right) -> Result<(), Stop>
     ensures { result ≡ slot_answer on v r }
 {
     if on {
-        let slot = refuse_if(8 <= v, 6);
-        let Answer::Permitted = slot else {
-            return slot;
-        };
+        check_if(8 <= v, Refusal::ReservedCode)?;
         return fault_unless(has_right(slot_rights(v), r), 1, Kind::Overlay, 8);
     }
-    Answer::Permitted
+    Ok(())
 }
 
 // The overlay of an access; `applies` is where overlays apply to the base rights.
-pub(crate) fn overlay_answer(s: Setup, d: Stage1, applies: LevelBits, a: Access) -> Answer
+pub(crate) fn overlay_answer(
+    s: Setup,
+    d: Stage1,
+    applies: PerLevel<bool>,
+    a: Access,
+) -> Result<(), Stop>
     ensures { result ≡ overlay_answer s d applies a }
 {
     let level = a.level;
-    let right = a.right;
-    let on = s.control.overlay;
-    let por = s.por;
-    let i = d.poindex;
-    let v = i.slot(register_of(por, level));
-    slot_answer(bit_of(on, level) & bit_of(applies, level), v, right)
+    let on = s.control.overlay.of(level) & applies.of(level);
+    let v = d.poindex.slot(s.por.of(level));
+    slot_answer(on, v, a.right)
 }

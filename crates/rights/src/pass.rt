@@ -7,10 +7,3 @@ pub(crate) mod level;
 pub(crate) mod stage1;
 pub(crate) mod stage2;
 pub mod table;
-
-// Rights as bits, or a refusal's number.
-#[derive(Clone, Copy)]
-pub(crate) enum Mask {
-    Granted(u8),
-    Refused(u8),
-}

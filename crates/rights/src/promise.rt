@@ -1,53 +1,46 @@
 // What the rights layer promises the planner: what it asks of a leaf at a level, and the slot bits of rights. No public function has a `requires`.
 ghost use Rattle.std.specs.Prelude.{◌≡◌, ◌<◌};
-ghost use Rattle.rights.specs.Mirror.Masks.{range_with};
 ghost use Rattle.rights.specs.Mirror.Table.{range_by};
 ghost use Rattle.rights.specs.Promise.{slot_of};
 
-use crate::pass::Mask;
 use crate::pass::level::{level_mask, slot_bits};
-use crate::pass::stage1::{mask_of, stage1_word};
+use crate::pass::stage1::stage1_mask;
 use crate::pass::stage2::stage2_mask;
+use crate::pass::table::BaseTable;
 use records::access::Level;
 use records::descriptor::index::POIndex;
+use records::refusal::Refusal;
 
-// The place of the leaf's slot, the rights of the level as bits 0 to 2 with every slot bit on and with every one off; or a refusal's number.
+// The place of the leaf's slot, and the rights of the level as bits 0 to 2 with every slot bit on and with every one off.
 #[derive(Clone, Copy)]
-pub enum RangeMask {
-    Range { place: usize, full: u8, bare: u8 },
-    Refused(u8),
-}
-
-fn range_with(place: usize, full: Mask, bare: Mask) -> RangeMask
-    ensures { result ≡ range_with place full bare }
-{
-    match full {
-        Mask::Refused(n) => RangeMask::Refused(n),
-        Mask::Granted(f) => match bare {
-            Mask::Granted(b) => RangeMask::Range {
-                place,
-                full: f,
-                bare: b,
-            },
-            Mask::Refused(n) => RangeMask::Refused(n),
-        },
-    }
+pub struct RangeMask {
+    pub place: usize,
+    pub full: u8,
+    pub bare: u8,
 }
 
 // The refusal that an access of the level meets with 77777777 in place of that level's POR, or the range of its rights: `w` is the control word,
-// `on` whether that level's overlay is, `base` the setup's table for stage 1, `d` and `e` are the descriptors, `t` is the limits.
+// `on` whether that level's overlay is, `base` the setup's tables for stage 1, `d` and `e` are the descriptors, `t` is the limits.
 #[tactic(auto, unfolding(crate::specs::Mirror::Table::range_by))]
-pub fn level_range(w: u32, on: bool, base: &[u16; 16], d: u64, e: u64, t: u8, l: Level) -> RangeMask
+pub fn level_range(
+    w: u32,
+    on: bool,
+    base: &BaseTable,
+    d: u64,
+    e: u64,
+    t: u8,
+    l: Level,
+) -> Result<RangeMask, Refusal>
     ensures { result ≡ range_by w on base.now d e t l }
 {
-    let first = mask_of(stage1_word(base, w, d, t));
+    let first = stage1_mask(base, w, d, t);
     let second = stage2_mask(w, e);
     let i = POIndex::of(d);
-    range_with(
-        i.place(),
-        level_mask(on, first, 7, second, l),
-        level_mask(on, first, 0, second, l),
-    )
+    Ok(RangeMask {
+        place: i.place(),
+        full: level_mask(on, first, 7, second, l)?,
+        bare: level_mask(on, first, 0, second, l)?,
+    })
 }
 
 // The slot that has the bits of these rights: a slot's bits are R, X, W and those of rights R, W, X. What a slot grants is its bits with X and W

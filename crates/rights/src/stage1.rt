@@ -2,12 +2,13 @@
 ghost use Rattle.std.specs.Prelude.{◌≡◌};
 ghost use Rattle.rights.specs.Stage1.{dirty, reserved_base, unjudged_base, base_cause, overlays_apply, base_answer, stage1_answer};
 
-use crate::answers::{Answer, Kind, descriptor_answer, fault_unless, refuse_if};
+use crate::answers::{Kind, Stop, descriptor_answer, fault_unless};
 use crate::indirect::codes_at;
 use crate::overlay::overlay_answer;
 use records::access::Access;
 use records::descriptor::{Limits, Stage1};
-use records::setup::{Control, LevelBits, Setup};
+use records::refusal::{Refusal, check_if};
+use records::setup::{Control, PerLevel, Setup};
 
 fn dirty_state(c: Control, d: Stage1) -> bool
     ensures { result ≡ dirty c d }
@@ -52,7 +53,7 @@ fn base_cause(s: Setup, d: Stage1, t: Limits, a: Access) -> u8
 }
 
 // Where overlays apply to the base rights.
-fn overlays_apply(s: Setup, d: Stage1) -> LevelBits
+fn overlays_apply(s: Setup, d: Stage1) -> PerLevel<bool>
     ensures { result ≡ overlays_apply s d }
 {
     if s.control.indirect {
@@ -60,7 +61,7 @@ fn overlays_apply(s: Setup, d: Stage1) -> LevelBits
         let i = d.piindex;
         return crate::indirect::code_overlays(codes_at(pir, i));
     }
-    LevelBits {
+    PerLevel {
         privileged: true,
         unprivileged: true,
     }
@@ -68,34 +69,22 @@ fn overlays_apply(s: Setup, d: Stage1) -> LevelBits
 
 // From the base codes on.
 #[tactic(auto, unfolding(crate::specs::Stage1::base_answer))]
-fn base_answer(s: Setup, d: Stage1, t: Limits, a: Access) -> Answer
+fn base_answer(s: Setup, d: Stage1, t: Limits, a: Access) -> Result<(), Stop>
     ensures { result ≡ base_answer s d t a }
 {
-    let reserved = refuse_if(reserved_base(s, d), 6);
-    let Answer::Permitted = reserved else {
-        return reserved;
-    };
-    let unjudged = refuse_if(unjudged_base(s, d), 7);
-    let Answer::Permitted = unjudged else {
-        return unjudged;
-    };
+    check_if(reserved_base(s, d), Refusal::ReservedCode)?;
+    check_if(unjudged_base(s, d), Refusal::Unjudged)?;
     let cause = base_cause(s, d, t, a);
-    let permit = fault_unless(cause == 0, 1, Kind::Permission, cause);
-    let Answer::Permitted = permit else {
-        return permit;
-    };
+    fault_unless(cause == 0, 1, Kind::Permission, cause)?;
     overlay_answer(s, d, overlays_apply(s, d), a)
 }
 
 // All steps of stage 1.
 #[tactic(auto, unfolding(crate::specs::Stage1::stage1_answer))]
-pub(crate) fn stage1_answer(s: Setup, d: Stage1, t: Limits, a: Access) -> Answer
+pub(crate) fn stage1_answer(s: Setup, d: Stage1, t: Limits, a: Access) -> Result<(), Stop>
     ensures { result ≡ stage1_answer s d t a }
 {
     let c = s.control;
-    let first = descriptor_answer(1, 11, 12, d.valid, d.af, dirty_state(c, d));
-    let Answer::Permitted = first else {
-        return first;
-    };
+    descriptor_answer(1, 11, 12, d.valid, d.af, dirty_state(c, d))?;
     base_answer(s, d, t, a)
 }

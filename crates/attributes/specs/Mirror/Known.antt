@@ -1,14 +1,13 @@
 -- Nothing here needs to be believed: `known-law` of proofs/KnownLaws ties it to `check_of`. A table that a setup decides once, by which it is
 -- known of each leaf whether 8, 8 or 9 refuses it. Assumes nothing.
-use Rattle.std.specs.Prelude.{ℕ, ◌+◌, ◌/◌, ◌<◌, ◌≡◌, Bool, true, false, not, ◌&&◌, List, [], ◌∷◌, eqb, get_or, drop}
+use Rattle.std.specs.Prelude.{ℕ, ◌+◌, ◌/◌, ◌<◌, ◌≡◌, Bool, true, false, not, ◌&&◌, List, [], ◌∷◌, eqb, get_or, drop, Ok, Err}
 use Rattle.records.specs.Access.{digit}
 use Rattle.records.specs.Descriptor.{sh, mem_attr}
 use Rattle.records.specs.Mirror.Fields.{attr_indx_of}
-use Rattle.records.specs.declared.check.Check.{Check}
-use Rattle.records.specs.declared.check.Check.TheVariants.{Passes, Refused}
 use Rattle.records.specs.declared.setup.Control.{Control}
 use Rattle.attributes.specs.Mair.{valid_byte, picked_byte}
 use Rattle.attributes.specs.StageTwoType.{reserved_code}
+use Rattle.records.specs.Values.{Check}
 
 -- 8 at stage 1 for AttrIndx k, 0 to 15: AttrIndx[3] is set from 8 on
 abbrev pub bad_byte : Control → ℕ → ℕ → ℕ → ℕ
@@ -34,5 +33,5 @@ known_with t d e =
 
 -- a check refuses nothing
 abbrev pub passes : Check → Bool
-passes Passes = true
-passes (Refused n) = false
+passes (Ok u) = true
+passes (Err n) = false

@@ -26,8 +26,8 @@ impl PIIndex {
     }
 
     // The entry at this index of a table that has one for each place of the PIRs.
-    pub fn pick(self, table: &[u16; 16]) -> u16
-        ensures { result ≡ entry_of table.now self }
+    pub fn pick<T: Copy>(self, table: &[T; 16]) -> T
+        ensures { (other : T) → result ≡ entry_of other table.now self }
     {
         let k = self.0;
         let i = (k % 16) as usize;

@@ -1,17 +1,21 @@
 -- Rights as bits of a number, and the tables of the planner's pass. Nothing here needs to be believed: the laws of proofs/BaseMasks say that
 -- they give what `direct_of` and `indirect_step` give. Assumes nothing.
-use Rattle.std.specs.Prelude.{ℕ, ◌+◌, ◌*◌, ◌/◌, ◌%◌, ◌^◌, List, [], ◌∷◌, Bool, cond, not, ◌&&◌, ◌||◌, leb, get_or}
+use Rattle.std.specs.Prelude.{ℕ, ◌+◌, ◌*◌, ◌/◌, ◌%◌, ◌^◌, List, [], ◌∷◌, Bool, cond, not, ◌&&◌, ◌||◌, leb, get_or, Result, Ok, Err}
 use Rattle.std.specs.Int.Bits.{bit_and, bit_or}
 use Rattle.records.specs.Access.{digit, six_mask}
 use Rattle.records.specs.Bits.{bit}
 use Rattle.rights.specs.Mirror.Base.{BaseAnswer}
-use Rattle.rights.specs.declared.pass.Mask.{Mask}
-use Rattle.rights.specs.declared.pass.Mask.TheVariants.{Granted, Refused}
+use Rattle.records.specs.declared.refusal.Refusal.{Refusal}
+use Rattle.records.specs.declared.refusal.Refusal.TheVariants.{ReservedCode, Unjudged}
+
+-- rights as bits, or a refusal
+abbrev pub Mask : Type 0
+Mask = Result ℕ Refusal
 
 -- base rights in bits 0 to 5, whether overlays apply at the privileged and the unprivileged level in bits 6 and 7
 abbrev pub base_mask : BaseAnswer → Mask
-base_mask (BaseAnswer.Granted b) = Granted (six_mask b.rights + 64 * digit b.overlay.privileged + 128 * digit b.overlay.unprivileged)
-base_mask (BaseAnswer.Refused n) = Refused n
+base_mask (Ok b) = Ok (six_mask b.rights + 64 * digit b.overlay.privileged + 128 * digit b.overlay.unprivileged)
+base_mask (Err n) = Err n
 
 -- a mask where a step removes rights, all six where it does not
 abbrev pub keep : Bool → ℕ → ℕ
@@ -61,5 +65,5 @@ upper_bits two u = cond two u (bit_and u 8)
 -- the answer of two codes' bits
 abbrev pub pair_mask : ℕ → ℕ → Mask
 pair_mask p u =
-    cond (leb 16 (bit_or p u)) (cond (bit p 4 || bit u 4) (Refused 6) (Refused 7))
-    (cond (bit p 2 && bit u 1) (Refused 7) (Granted (p % 8 + u % 8 * 8 + p / 2 ^ 3 % 2 * 64 + u / 2 ^ 3 % 2 * 128)))
+    cond (leb 16 (bit_or p u)) (cond (bit p 4 || bit u 4) (Err ReservedCode) (Err Unjudged))
+    (cond (bit p 2 && bit u 1) (Err Unjudged) (Ok (p % 8 + u % 8 * 8 + p / 2 ^ 3 % 2 * 64 + u / 2 ^ 3 % 2 * 128)))

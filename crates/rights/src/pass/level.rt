@@ -2,8 +2,8 @@
 ghost use Rattle.std.specs.Prelude.{◌≡◌, ◌<◌};
 ghost use Rattle.rights.specs.Mirror.Masks.{applies_in, grants, stage2_left, slot_left, mask_with};
 
-use crate::pass::Mask;
 use records::access::{Level, level_bits};
+use records::refusal::Refusal;
 
 // What slots 0 to 7 grant: their bits are R, X, W.
 const SLOTS: [u8; 8] = [0, 1, 4, 5, 2, 3, 6, 7];
@@ -19,17 +19,13 @@ fn applies_in(m: u8, l: Level) -> bool
 }
 
 // The rights that stage 2 leaves.
-fn stage2_left(r: u8, t: Mask, l: Level) -> Mask
+fn stage2_left(r: u8, t: Result<u8, Refusal>, l: Level) -> Result<u8, Refusal>
     ensures { result ≡ stage2_left r t l }
 {
     match t {
-        Mask::Granted(g) => Mask::Granted(r & level_bits(g, l)),
-        Mask::Refused(n) => {
-            if r == 0 {
-                return Mask::Granted(0);
-            }
-            Mask::Refused(n)
-        }
+        Ok(g) => Ok(r & level_bits(g, l)),
+        Err(_) if r == 0 => Ok(0),
+        Err(n) => Err(n),
     }
 }
 
@@ -44,21 +40,25 @@ pub(crate) fn slot_bits(on: bool, v: u8) -> u8
     7
 }
 
-fn slot_left(r: u8, on: bool, v: u8, t: Mask, l: Level) -> Mask
+fn slot_left(r: u8, on: bool, v: u8, t: Result<u8, Refusal>, l: Level) -> Result<u8, Refusal>
     ensures { result ≡ slot_left r on v t l }
 {
     if on & (8 <= v) & (r != 0) {
-        return Mask::Refused(6);
+        return Err(Refusal::ReservedCode);
     }
     stage2_left(r & slot_bits(on, v), t, l)
 }
 
 // The level's rights with slot `v`, from both stages; `on` is whether that level's overlay is.
-pub(crate) fn level_mask(on: bool, first: Mask, v: u8, t: Mask, l: Level) -> Mask
+pub(crate) fn level_mask(
+    on: bool,
+    first: Result<u8, Refusal>,
+    v: u8,
+    t: Result<u8, Refusal>,
+    l: Level,
+) -> Result<u8, Refusal>
     ensures { result ≡ mask_with on first v t l }
 {
-    match first {
-        Mask::Granted(m) => slot_left(level_bits(m, l), on & applies_in(m, l), v, t, l),
-        Mask::Refused(n) => Mask::Refused(n),
-    }
+    let m = first?;
+    slot_left(level_bits(m, l), on & applies_in(m, l), v, t, l)
 }

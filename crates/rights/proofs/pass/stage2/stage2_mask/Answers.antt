@@ -4,11 +4,11 @@ use borrow.Author.Tests.{eq-eqb, ne_eqb}
 use Rattle.records.specs.Bits.{bit}
 use Rattle.records.specs.Descriptor.{stage2_of}
 use Rattle.rights.proofs.Masks.{stage2-table, stage2-grants}
-use Rattle.rights.specs.declared.pass.Mask.TheVariants.{Granted}
 use Rattle.rights.proofs.pass.stage2.stage2_mask.Goals as goal
+use Rattle.std.specs.Prelude.{Ok}
 
 pub returns-then-e : goal.returns-then-e
 unfolding stage2_of
 returns-then-e c =
-    ap Granted (stage2-table c.args.e)
+    ap Ok (stage2-table c.args.e)
     ∙ sym (stage2-grants (bit c.args.w 2) (stage2_of c.args.e) (eq-eqb _ _ c.if-w-eq1.true) c.if-e.true (ne_eqb _ _ c.if-e-eq1.false))

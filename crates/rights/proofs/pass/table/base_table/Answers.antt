@@ -1,13 +1,23 @@
--- The law of a table.
-use Rattle.std.proofs.Common.{refl}
-use Rattle.rights.proofs.MadeTables.{table-none, table-more, table-all}
+-- One entry more of each table, and all.
+use Rattle.std.proofs.Common.{rules, arith}
+use Rattle.rights.proofs.Entries.{one_entry}
 use Rattle.rights.proofs.pass.table.base_table.Goals as goal
 
-pub loop-k-init : goal.loop-k-init
-loop-k-init c = table-none _ _ _ refl
-
 pub loop-k-preserved : goal.loop-k-preserved
-loop-k-preserved c = table-more _ _ _ _ c.loop-k.invariant c.loop-k-test.true _ c.entry_at.ensures
+loop-k-preserved c =
+    let h = c.loop-k.invariant in
+    record {
+      codes = one_entry _ _ _ (omega (arith, h.sizes.0)) h.codes _ c.pair_at.ensures;
+      descriptor = one_entry _ _ _ (omega (arith, h.sizes.1)) h.descriptor _ c.descriptor_left.ensures;
+      limits = one_entry _ _ _ (omega (arith, h.sizes.2)) h.limits _ c.limits_left.ensures;
+      sizes = search rules;
+    }
 
 pub returns : goal.returns
-returns c = table-all _ _ _ _ c.loop-k.invariant c.loop-k-test.false
+returns c =
+    let h = c.loop-k.invariant in
+    record {
+      codes = λ k l o. h.codes k (omega arith) o;
+      descriptor = λ k l. h.descriptor k (omega arith) 0;
+      limits = λ k l. h.limits k (omega arith) 0;
+    }
