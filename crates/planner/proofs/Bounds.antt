@@ -11,25 +11,23 @@ use borrow.Author.Tests.{ltb-true}
 use Rattle.records.specs.declared.access.Level.{Level}
 use Rattle.records.specs.Setup.{read_setup}
 use Rattle.records.specs.declared.setup.Setup.{Setup}
-use Rattle.records.specs.declared.setup.SetupRead.{SetupRead}
-use Rattle.records.specs.declared.setup.SetupRead.TheVariants as setup
 use Rattle.records.specs.Leaf.{leaf_slice}
 use Rattle.planner.specs.Plan.{plans_of, or_refused, refused_from, first_uncured, register_for, settled, plan_leaves, plan_from, plan_setup, start_of, plan_of}
-use Rattle.planner.specs.declared.plan.Plan.{Plan}
-use Rattle.planner.specs.declared.plan.Plan.TheVariants.{Register, Refused}
-use Rattle.planner.specs.declared.plan.LeafPlan.{LeafPlan}
-use Rattle.planner.specs.declared.plan.LeafPlan.TheVariants as plan
-use Rattle.planner.specs.declared.plan.Start.{Start}
-use Rattle.planner.specs.declared.plan.Start.TheVariants as start
 use Rattle.planner.proofs.CutLaws.{cuts-masks, sevens}
 use Rattle.planner.proofs.Leaves.{leaf-low}
 use Rattle.planner.proofs.Packing.{pack-lt-32}
 use Rattle.planner.proofs.StartLaws.{fits}
+use Rattle.std.specs.Prelude.{Result, Ok, Err}
+use Rattle.records.specs.declared.refusal.Refusal.{Refusal}
+use Rattle.records.specs.declared.refusal.Refusal.TheVariants.{NotSeparable}
+use Rattle.records.specs.Values.{on_leaf}
+use Rattle.planner.specs.Plan.{Plan}
+use Rattle.planner.specs.Plan.{LeafPlan}
 
 -- within a list of n leaves
 pub data Within (n : ℕ) : Plan → Type 0 where
-  register : (r : ℕ) → r < 2 ^ 32 → Within n (Register r)
-  refusal : (k i : ℕ) → (i ≡ 0) ⊎ (i < n) → Within n (Refused k i)
+  register : (r : ℕ) → r < 2 ^ 32 → Within n (Ok r)
+  refusal : (k : Refusal) (i : ℕ) → (i ≡ 0) ⊎ (i < n) → Within n (Err (on_leaf k i))
 
 -- a leaf's refusal names that leaf
 refused-within : (P : ℕ → LeafPlan) (p : Plan) (n m i : ℕ) → i + m ≤ n → Within n p → Within n (refused_from P p m i)
@@ -38,8 +36,8 @@ refused-within P p n zero i h w = w
 refused-within P p n (suc m) i h w = go (P i) (refused-within P p n m (suc i) (omega arith) w)
   where
     go : (x : LeafPlan) → Within n (refused_from P p m (suc i)) → Within n (or_refused x i (refused_from P p m (suc i)))
-    go (plan.Cut k t u) v = v
-    go (plan.Refused k) v = refusal k i (inr (omega arith))
+    go (Ok c) v = v
+    go (Err k) v = refusal k i (inr (omega arith))
 
 module _ (s : Setup) (l : Level) (ls : List ℕ) where
   settled-within : (n : ℕ) → Within n (settled (plans_of s l ls) n)
@@ -47,8 +45,8 @@ module _ (s : Setup) (l : Level) (ls : List ℕ) where
   settled-within n = go (ltb (first_uncured (plans_of s l ls) n 0) n) refl
     where
       go : (t : Bool) → ltb (first_uncured (plans_of s l ls) n 0) n ≡ t
-          → Within n (cond t (Refused 10 (first_uncured (plans_of s l ls) n 0)) (Register (register_for (plans_of s l ls) n)))
-      go true e = refusal 10 _ (inr (ltb-true _ _ e))
+          → Within n (cond t (Err (on_leaf NotSeparable (first_uncured (plans_of s l ls) n 0))) (Ok (register_for (plans_of s l ls) n)))
+      go true e = refusal NotSeparable _ (inr (ltb-true _ _ e))
       go false e =
           register _
           (pack-lt-32 _ (cuts-masks (plans_of s l ls) (λ i. leaf-low s l (leaf_slice ls i)) n 0 (replicate 8 7) sevens).small 8 0 (omega arith))
@@ -63,12 +61,12 @@ within bytes lv ls = read (read_setup bytes)
     wider p n h (refusal k i (inl e)) = refusal k i (inl e)
     wider p n h (refusal k i (inr e)) = refusal k i (inr (omega arith))
 
-    go : (s : Setup) (x : Start) → start_of s.control lv (length ls) ≡ x → Within 2048 (plan_from s ls x)
-    go s (start.Refused k) e = refusal k 0 (inl refl)
-    go s (start.Leaves l) e =
+    go : (s : Setup) (x : (Result Level Refusal)) → start_of s.control lv (length ls) ≡ x → Within 2048 (plan_from s ls x)
+    go s (Err k) e = refusal k 0 (inl refl)
+    go s (Ok l) e =
         wider _ (length ls / 18) (fits (length ls) l s.control lv e).1
         (refused-within (plans_of s l ls) (settled (plans_of s l ls) (length ls / 18)) (length ls / 18) (length ls / 18) 0 (omega arith) (settled-within s l ls (length ls / 18)))
 
-    read : (x : SetupRead) → Within 2048 (plan_setup lv ls x)
-    read (setup.Refused n) = refusal 13 0 (inl refl)
-    read (setup.Read s) = go s (start_of s.control lv (length ls)) refl
+    read : (x : (Result Setup Refusal)) → Within 2048 (plan_setup lv ls x)
+    read (Err n) = refusal n 0 (inl refl)
+    read (Ok s) = go s (start_of s.control lv (length ls)) refl

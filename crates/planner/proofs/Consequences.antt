@@ -18,23 +18,23 @@ use Rattle.records.specs.declared.setup.Setup.{Setup}
 use Rattle.rights.proofs.PromiseLaws.{access-not-refused, open-slot, rights-with}
 use Rattle.rights.specs.Checks.{leaf_check}
 use Rattle.rights.specs.Promise.{range_of, between, put, all_open, LevelRange, answer_with}
-use Rattle.records.specs.declared.check.Check.TheVariants as check
-use Rattle.rights.specs.declared.answers.Answer.TheVariants as answer
 use Rattle.planner.specs.Demands.{Usable, Passes, Separates, Accepted}
 use Rattle.planner.specs.Plan.{cuts, first_uncured, plan_of, register_for, settled}
 use Rattle.planner.specs.Register.{pack_from}
-use Rattle.planner.specs.declared.plan.Plan.TheVariants.{Register}
 use Rattle.planner.proofs.Leaves.{not-refused}
 use Rattle.planner.proofs.Theorem.{accepted-settles, demand3}
+use Rattle.std.specs.Prelude.{Ok, Err}
+use Rattle.rights.specs.declared.answers.Stop.TheVariants.{Refused}
+use Rattle.records.specs.declared.refusal.Refusal.{Refusal}
 
 -- an empty list gives 0000000077777777
-pub empty : (bytes : List ℕ) (lv : ℕ) (s : Setup) (l : Level) → Accepted bytes lv [] s l → plan_of bytes lv [] ≡ Register 0x77777777
+pub empty : (bytes : List ℕ) (lv : ℕ) (s : Setup) (l : Level) → Accepted bytes lv [] s l → plan_of bytes lv [] ≡ Ok 0x77777777
 unfolding settled register_for first_uncured cuts pack_from
 empty bytes lv s l A = accepted-settles bytes lv [] s l A
 
 -- each bit is on in the answer exactly if it is on in some usable register that separates
 pub exactly : (bytes : List ℕ) (lv : ℕ) (ls : List ℕ) (s : Setup) (l : Level) → Accepted bytes lv ls s l
-    → (r : ℕ) → plan_of bytes lv ls ≡ Register r → (k : ℕ)
+    → (r : ℕ) → plan_of bytes lv ls ≡ Ok r → (k : ℕ)
     → (bit r k ≡ true) ↔ ((q : ℕ) × Usable q × Separates s l ls q × (bit q k ≡ true))
 exactly bytes lv ls s l A r e k =
     let m = (demand3 bytes lv ls (plan_of bytes lv ls) refl s l A).largest r e in
@@ -52,8 +52,8 @@ access-number Unprivileged Execute = refl
 -- a leaf passes exactly if it has no 5 and the range of its rights is not refused
 pub passes-as : (s : Setup) (l : Level) (f : Leaf)
     → Passes s l f
-    ↔ ((leaf_check f ≡ check.Passes)
-    × ((n : ℕ) → range_of s (stage1_of f.stage1) (stage2_of f.stage2) (limits_of f.limits) l ≡ LevelRange.NoRange n → ⊥))
+    ↔ ((leaf_check f ≡ (Ok tt))
+    × ((n : Refusal) → range_of s (stage1_of f.stage1) (stage2_of f.stage2) (limits_of f.limits) l ≡ LevelRange.NoRange n → ⊥))
 passes-as s l f = (
   (λ p. (p.checked, not-refused s l f p)),
   (λ w. record {
@@ -63,8 +63,8 @@ passes-as s l f = (
 )
   where
     go : (r : LevelRange) → range_of s (stage1_of f.stage1) (stage2_of f.stage2) (limits_of f.limits) l ≡ r
-        → ((n : ℕ) → range_of s (stage1_of f.stage1) (stage2_of f.stage2) (limits_of f.limits) l ≡ LevelRange.NoRange n → ⊥)
-        → (x : Right) (n : ℕ) → answer_with s l all_open f x ≡ answer.Refused n → ⊥
+        → ((n : Refusal) → range_of s (stage1_of f.stage1) (stage2_of f.stage2) (limits_of f.limits) l ≡ LevelRange.NoRange n → ⊥)
+        → (x : Right) (n : Refusal) → answer_with s l all_open f x ≡ (Err (Refused n)) → ⊥
     go (LevelRange.NoRange m) e none x n q = none m e
     go (LevelRange.Range k full bare) e none x n q =
         let d = stage1_of f.stage1 in

@@ -12,9 +12,10 @@ use borrow.Author.Tests.{eqb-true, eqb-false}
 use Rattle.records.specs.Bits.{bit}
 use Rattle.planner.specs.Register.{cut_mask}
 use Rattle.planner.specs.Plan.{cut_by, cuts, uncured, first_uncured}
-use Rattle.planner.specs.declared.plan.LeafPlan.{LeafPlan}
-use Rattle.planner.specs.declared.plan.LeafPlan.TheVariants.{Cut, Refused}
 use Rattle.planner.proofs.Bits.{cut_low, cut-bit}
+use Rattle.std.specs.Prelude.{Result, Ok, Err}
+use Rattle.records.specs.declared.refusal.Refusal.{Refusal}
+use Rattle.planner.specs.Plan.{LeafPlan}
 
 -- eight masks of three bits
 pub record Masks (ms : List ℕ) : Type 0 where
@@ -23,13 +24,13 @@ pub record Masks (ms : List ℕ) : Type 0 where
 
 -- a leaf's place is below 8, and it takes bits of a slot
 abbrev pub Low : LeafPlan → Type 0
-Low (Cut k t u) = (k < 8) × (t < 8)
-Low (Refused n) = Unit {0}
+Low (Ok c) = (c.place < 8) × (c.taken < 8)
+Low (Err n) = Unit {0}
 
 -- a leaf takes bit b of the slot at place s
 abbrev pub takes : LeafPlan → ℕ → ℕ → Bool
-takes (Cut k t u) s b = eqb s k && bit t b
-takes (Refused n) s b = false
+takes (Ok c) s b = eqb s c.place && bit c.taken b
+takes (Err n) s b = false
 
 -- one of the m leaves from i on takes it
 pub takes_from : (ℕ → LeafPlan) → ℕ → ℕ → ℕ → ℕ → Bool
@@ -58,21 +59,21 @@ set-masks ms k v h g M = record {
 
 -- the masks after a leaf: eight of three bits, and a bit is on exactly if it was on and the leaf does not take it
 cut-masks : (p : LeafPlan) (ms : List ℕ) → Low p → Masks ms → Masks (cut_by p ms)
-cut-masks (Refused n) ms h M = M
-cut-masks (Cut k t u) ms h M = set-masks ms k _ h.0 (cut_low (get_or ms k 0) _ (M.small k)) M
+cut-masks (Err n) ms h M = M
+cut-masks (Ok c) ms h M = set-masks ms c.place _ h.0 (cut_low (get_or ms c.place 0) _ (M.small c.place)) M
 
 cut-takes : (p : LeafPlan) (ms : List ℕ) → Low p → Masks ms → (s b : ℕ) → b < 3
     → bit (get_or (cut_by p ms) s 0) b ≡ (bit (get_or ms s 0) b && not (takes p s b))
-cut-takes (Refused n) ms h M s b l = stays (bit (get_or ms s 0) b)
-cut-takes (Cut k t u) ms h M s b l = go (eqb s k) refl
+cut-takes (Err n) ms h M s b l = stays (bit (get_or ms s 0) b)
+cut-takes (Ok c) ms h M s b l = go (eqb s c.place) refl
   where
-    go : (z : Bool) → eqb s k ≡ z
-        → bit (get_or (set ms k (cut_mask (get_or ms k 0) t)) s 0) b ≡ (bit (get_or ms s 0) b && not (z && bit t b))
+    go : (z : Bool) → eqb s c.place ≡ z
+        → bit (get_or (set ms c.place (cut_mask (get_or ms c.place 0) c.taken)) s 0) b ≡ (bit (get_or ms s 0) b && not (z && bit c.taken b))
     go true e =
-        let q = eqb-true s k e in
-        let w = get_or-set_same ms k (cut_mask (get_or ms k 0) t) 0 (let d = M.eight in omega (arith, h.0)) in
-        rw (q, w) (cut-bit (get_or ms k 0) t b (M.small k) h.1 l)
-    go false e = rw (get_or-set_other ms k s (cut_mask (get_or ms k 0) t) 0 (eqb-false s k e)) (stays (bit (get_or ms s 0) b))
+        let q = eqb-true s c.place e in
+        let w = get_or-set_same ms c.place (cut_mask (get_or ms c.place 0) c.taken) 0 (let d = M.eight in omega (arith, h.0)) in
+        rw (q, w) (cut-bit (get_or ms c.place 0) c.taken b (M.small c.place) h.1 l)
+    go false e = rw (get_or-set_other ms c.place s (cut_mask (get_or ms c.place 0) c.taken) 0 (eqb-false s c.place e)) (stays (bit (get_or ms s 0) b))
 
 module _ (P : ℕ → LeafPlan) (F : (i : ℕ) → Low (P i)) where
   pub cuts-masks : (m i : ℕ) (ms : List ℕ) → Masks ms → Masks (cuts P m i ms)

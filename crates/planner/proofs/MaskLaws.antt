@@ -11,30 +11,30 @@ use lib.ListN.{get_or}
 use Rattle.records.specs.Descriptor.{stage1_of, stage2_of, limits_of}
 use Rattle.records.proofs.Cases.{each, each-digit}
 use Rattle.records.specs.Leaf.{read_leaf, leaf_count, leaf_slice}
-use Rattle.records.specs.Setup.{bit_of, control_of, setup_from}
+use Rattle.records.specs.Setup.{of_level, control_of, setup_from}
 use Rattle.records.specs.declared.access.Level.{Level}
 use Rattle.records.specs.declared.access.Level.TheVariants.{Privileged, Unprivileged}
 use Rattle.records.specs.declared.leaf.Leaf.{Leaf}
-use Rattle.records.specs.declared.leaf.LeafRead.{LeafRead}
-use Rattle.records.specs.declared.leaf.LeafRead.TheVariants as leaf
 use Rattle.records.specs.declared.setup.Words.{Words}
 use Rattle.rights.specs.Checks.{leaf_check}
-use Rattle.records.specs.declared.check.Check.{Check}
-use Rattle.records.specs.declared.check.Check.TheVariants as check
 use Rattle.records.specs.Access.{three, bits_in, level_bits}
 use Rattle.records.specs.declared.access.LevelRights.{LevelRights}
 use Rattle.rights.proofs.PromiseLaws.{and-bits, any-bits, slot-low, range-by, place-below}
 use Rattle.rights.specs.Promise.{range_of, LevelRange, range_mask, slot_of}
-use Rattle.rights.specs.Mirror.Table.{BaseTable, range_by}
-use Rattle.rights.specs.declared.promise.RangeMask.{RangeMask}
-use Rattle.rights.specs.declared.promise.RangeMask.TheVariants as mask
+use Rattle.rights.specs.Mirror.Table.{range_by}
 use Rattle.planner.specs.Mirror.Masks.{mask_plan, read_plan, plan_by, plans_by}
 use Rattle.records.specs.Values.{if_passes}
 use Rattle.planner.specs.Plan.{forbidden_rights, common, range_plan, leaf_plan, leaf_plan_of, in_order, plan_leaves}
 use Rattle.planner.specs.Register.{slot_number}
-use Rattle.planner.specs.declared.plan.LeafPlan.{LeafPlan}
-use Rattle.planner.specs.declared.plan.LeafPlan.TheVariants.{Cut, Refused}
 use Rattle.planner.proofs.CutLaws.{Low}
+use Rattle.std.specs.Prelude.{Result, Ok, Err}
+use Rattle.records.specs.declared.refusal.Refusal.{Refusal}
+use Rattle.records.specs.Values.{Check}
+use Rattle.planner.specs.Plan.{LeafPlan}
+use Rattle.planner.specs.Plan.{cut}
+use Rattle.rights.specs.declared.promise.RangeMask.{RangeMask}
+use Rattle.rights.specs.Mirror.Table.{TableOf}
+use Rattle.rights.specs.declared.pass.table.BaseTable.{BaseTable}
 
 -- the forbidden bits of a level: digits 0 to 2
 abbrev number : List ℕ → ℕ
@@ -64,21 +64,24 @@ slot-order a =
 in-common : (f : ℕ) (l : Level) (a : LevelRights) → bit_and (bits_in f l) (level_bits a) ≡ level_bits (common (forbidden_rights f l) a)
 in-common f l a = ap (λ (n : ℕ). bit_and n (level_bits a)) (forbidden-bits f l) ∙ and-bits (forbidden_rights f l) a
 
+abbrev the_cut : ℕ → ℕ → Bool → LeafPlan
+the_cut k t u = Ok (cut k t u)
+
 mask-plan : (f : ℕ) (l : Level) (x : LevelRange) → mask_plan f l (range_mask x) ≡ range_plan f l x
 mask-plan f l (LevelRange.Range k full bare) =
-    ap₂ (Cut k) (ap slot_of (in-common f l full) ∙ slot-order (common (forbidden_rights f l) full))
+    ap₂ (λ (t : ℕ) (u : Bool). the_cut k t u) (ap slot_of (in-common f l full) ∙ slot-order (common (forbidden_rights f l) full))
     (ap (λ (n : ℕ). not (eqb n 0)) (in-common f l bare) ∙ any-bits (common (forbidden_rights f l) bare))
 mask-plan f l (LevelRange.NoRange n) = refl
 
-module _ (q : Words) (b : List ℕ) (l : Level) (h : BaseTable q.control q.pir.privileged q.pir.unprivileged b) where
+module _ (q : Words) (b : BaseTable) (l : Level) (h : TableOf q.control q.pir.privileged q.pir.unprivileged b) where
   -- that level's overlay is on
   abbrev on : Bool
-  on = bit_of (control_of q.control).overlay l
+  on = of_level (control_of q.control).overlay l
 
-  read-plan : (x : LeafRead) → read_plan q.control on b l x ≡ leaf_plan (setup_from q) l x
-  read-plan (leaf.Refused n) = refl
-  read-plan (leaf.Read f) =
-      ap (if_passes (leaf_check f) Refused)
+  read-plan : (x : (Result Leaf Refusal)) → read_plan q.control on b l x ≡ leaf_plan (setup_from q) l x
+  read-plan (Err n) = refl
+  read-plan (Ok f) =
+      ap (if_passes (leaf_check f) Err)
       (ap (mask_plan f.forbidden l) (range-by q b f.stage1 f.stage2 f.limits l h)
       ∙ mask-plan f.forbidden l (range_of (setup_from q) (stage1_of f.stage1) (stage2_of f.stage2) (limits_of f.limits) l))
 
@@ -93,17 +96,17 @@ module _ (q : Words) (b : List ℕ) (l : Level) (h : BaseTable q.control q.pir.p
   leaves_by ls = ap (λ (P : ℕ → LeafPlan). in_order P (leaf_count ls)) (fun_ext (λ i. plan-by (leaf_slice ls i)))
 
 -- by any table a leaf's place is below 8, and it takes bits of a slot
-pub by-low : (w : ℕ) (on : Bool) (b : List ℕ) (l : Level) (bytes : List ℕ) → Low (plan_by w on b l bytes)
+pub by-low : (w : ℕ) (on : Bool) (b : BaseTable) (l : Level) (bytes : List ℕ) → Low (plan_by w on b l bytes)
 unfolding plan_by
 by-low w on b l bytes = go (read_leaf bytes)
   where
-    checked : (f : Leaf) (a : Check) (r : RangeMask) → range_by w on b f.stage1 f.stage2 f.limits l ≡ r
-        → Low (if_passes a Refused (mask_plan f.forbidden l r))
-    checked f check.Passes (mask.Range k full bare) e =
-        (place-below w on b f.stage1 f.stage2 f.limits l k full bare e, slot-low (bit_and (bits_in f.forbidden l) full))
-    checked f check.Passes (mask.Refused n) e = tt
-    checked f (check.Refused n) r e = tt
+    checked : (f : Leaf) (a : Check) (r : (Result RangeMask Refusal)) → range_by w on b f.stage1 f.stage2 f.limits l ≡ r
+        → Low (if_passes a Err (mask_plan f.forbidden l r))
+    checked f (Ok u) (Ok r) e =
+        (place-below w on b f.stage1 f.stage2 f.limits l r.place r.full r.bare e, slot-low (bit_and (bits_in f.forbidden l) r.full))
+    checked f (Ok u) (Err n) e = tt
+    checked f (Err n) r e = tt
 
-    go : (x : LeafRead) → Low (read_plan w on b l x)
-    go (leaf.Refused n) = tt
-    go (leaf.Read f) = checked f (leaf_check f) (range_by w on b f.stage1 f.stage2 f.limits l) refl
+    go : (x : (Result Leaf Refusal)) → Low (read_plan w on b l x)
+    go (Err n) = tt
+    go (Ok f) = checked f (leaf_check f) (range_by w on b f.stage1 f.stage2 f.limits l) refl

@@ -16,11 +16,13 @@ use Rattle.records.specs.declared.descriptor.Stage1.{Stage1}
 use Rattle.records.specs.declared.descriptor.Stage2.{Stage2}
 use Rattle.records.specs.declared.setup.Setup.{Setup}
 use Rattle.rights.proofs.PromiseLaws.{answer_to, right_is, bare-is, rights-with, place_is}
-use Rattle.rights.specs.Promise.{permitted, range_of, between, put, Range, Rights}
+use Rattle.rights.specs.Promise.{permitted, range_of, between, put, Range, LevelAnswer}
 use Rattle.records.specs.Access.{has_right}
 use Rattle.records.specs.declared.access.LevelRights.{LevelRights}
 use Rattle.planner.specs.Register.{slot_bit}
 use Rattle.planner.proofs.Bits.{nought-slot}
+use Rattle.records.specs.declared.refusal.Refusal.{Refusal}
+use Rattle.std.specs.Prelude.{Ok}
 
 -- one right of the rights with slot v
 between-right : (f b : LevelRights) (v : ℕ) (x : Right) → has_right (between f b v) x ≡ (has_right f x && (has_right b x || bit v (slot_bit x)))
@@ -28,7 +30,10 @@ between-right f b v Read = refl
 between-right f b v Write = refl
 between-right f b v Execute = refl
 
-same-rights : (a b : LevelRights) → Rights a ≡ Rights b → a ≡ b
+abbrev granted : LevelRights → LevelAnswer
+granted a = Ok a
+
+same-rights : (a b : LevelRights) → granted a ≡ granted b → a ≡ b
 same-rights a b e = cc
 
 module _ (s : Setup) (d : Stage1) (e : Stage2) (t : Limits) (l : Level) (k : ℕ) (f b : LevelRights) where

@@ -24,15 +24,19 @@ use Rattle.records.specs.declared.access.LevelRights.{LevelRights}
 use Rattle.planner.specs.Register.{slot_bit, pack_from}
 use Rattle.planner.specs.Plan.{forbidden_rights, common, any, plans_of, or_refused, uncured, refused_from, first_uncured, cuts, register_for, settled, plan_leaves, plan_of}
 use Rattle.planner.specs.Demands.{Usable, Passes, Allowed, Forbids, Cures, Separates, Largest, FirstUncured, Demand3, Accepted, Demanded}
-use Rattle.planner.specs.declared.plan.Plan.{Plan}
-use Rattle.planner.specs.declared.plan.Plan.TheVariants.{Register, Refused}
-use Rattle.planner.specs.declared.plan.LeafPlan.{LeafPlan}
 use Rattle.planner.proofs.Bits.{opposed, slot-bit, right-at, right-low, seven-bit, any_none, any-one, upper, nought-slot, nought-bit, fourth, bit-slot}
 use Rattle.planner.proofs.CutLaws.{Masks, Low, takes, takes_from, cuts-masks, cuts-bit, taken-by, taker, clear, hit, sevens}
 use Rattle.planner.proofs.Leaves.{Ranged, ranged, leaf-low}
 use Rattle.planner.proofs.Packing.{pack-slot, pack-lt-32}
 use Rattle.planner.proofs.Promise.{allowed-is, bare-within}
 use Rattle.planner.proofs.StartLaws.{accepted-starts}
+use Rattle.std.specs.Prelude.{Result, Ok, Err}
+use Rattle.records.specs.declared.refusal.Refusal.{Refusal}
+use Rattle.records.specs.declared.refusal.Refusal.TheVariants.{NotSeparable}
+use Rattle.records.proofs.CheckLaws.{same-refusal}
+use Rattle.records.specs.Values.{on_leaf}
+use Rattle.planner.specs.Plan.{Plan}
+use Rattle.planner.specs.Plan.{LeafPlan}
 
 -- truth values
 and_l : (a b : Bool) → (a && b) ≡ true → a ≡ true
@@ -278,16 +282,16 @@ module _ (s : Setup) (l : Level) (ls : List ℕ) where
     }
 
     -- the two answers meet the demand
-    refusal : first_uncured P n 0 < n → Demand3 s l ls (Refused 10 (first_uncured P n 0))
+    refusal : first_uncured P n 0 < n → Demand3 s l ls (Err (on_leaf NotSeparable (first_uncured P n 0)))
     refusal h = record {
       answered = inl (first_uncured P n 0, refl);
       refused = λ k e r u sep. none-cures h r u (sep (first_uncured P n 0) h);
       only = λ none. (first_uncured P n 0, refl);
-      first = λ k e. subst (λ x. FirstUncured s l ls x) (let q : first_uncured P n 0 ≡ k = cc in q) (first h);
+      first = λ k e. subst (λ x. FirstUncured s l ls x) (same-refusal e).1 (first h);
       largest = λ r e. clash (cc);
     }
 
-    register : n ≤ first_uncured P n 0 → Demand3 s l ls (Register reg)
+    register : n ≤ first_uncured P n 0 → Demand3 s l ls (Ok reg)
     register h = record {
       answered = inr (reg, refl);
       refused = λ k e. clash (cc);
@@ -301,7 +305,7 @@ module _ (s : Setup) (l : Level) (ls : List ℕ) where
     settled-meets = go (ltb (first_uncured P n 0) n) refl
       where
         go : (t : Bool) → ltb (first_uncured P n 0) n ≡ t
-            → Demand3 s l ls (cond t (Refused 10 (first_uncured P n 0)) (Register (pack_from (cuts P n 0 (replicate 8 7)) 8 0)))
+            → Demand3 s l ls (cond t (Err (on_leaf NotSeparable (first_uncured P n 0))) (Ok (pack_from (cuts P n 0 (replicate 8 7)) 8 0)))
         go true e = refusal (ltb-true _ _ e)
         go false e = register (ltb-false _ _ e)
 

@@ -1,4 +1,5 @@
 -- A turn of the loop over the leaves, in each of the plan's definitions, and their ends. Assumes nothing.
+use Rattle.records.proofs.Cases.{clash}
 use mathlib.Core.Path.{◌≡◌, refl, sym, ◌∙◌}
 use mathlib.Core.List.{List}
 use mathlib.Core.Bool.{Bool, true, false, cond}
@@ -11,10 +12,13 @@ use lib.ListN.{replicate}
 use borrow.Author.Tests.{lt-ltb, le-ltb, eq-eqb, ne_eqb, eqb-true}
 use Rattle.planner.specs.Register.{pack_from}
 use Rattle.planner.specs.Plan.{or_refused, cut_by, uncured, refused_from, first_uncured, cuts, register_for, settled}
-use Rattle.planner.specs.Mirror.Masks.{first_of}
-use Rattle.planner.specs.declared.plan.Plan.{Plan}
-use Rattle.planner.specs.declared.plan.Plan.TheVariants.{Register, Refused}
-use Rattle.planner.specs.declared.plan.LeafPlan.{LeafPlan}
+use Rattle.planner.specs.Mirror.Masks.{first_of, found_or}
+use Rattle.std.specs.Prelude.{Result, Ok, Err, Option, Some, None}
+use Rattle.records.specs.declared.refusal.Refusal.{Refusal}
+use Rattle.records.specs.declared.refusal.Refusal.TheVariants.{NotSeparable}
+use Rattle.records.specs.Values.{on_leaf}
+use Rattle.planner.specs.Plan.{Plan}
+use Rattle.planner.specs.Plan.{LeafPlan}
 
 left : {i n : ℕ} → i < n → n - i ≡ suc (n - (i + 1))
 left h = omega arith
@@ -28,19 +32,23 @@ module _ (P : ℕ → LeafPlan) (n i : ℕ) (h : i < n) where
   unfolding cuts
   cuts-go ms = rw (left h, add-one i)
 
-  pub first-go : (first : ℕ)
-      → cond (eqb first n) (first_uncured P (n - i) i) first
-      ≡ cond (eqb (first_of first n i (uncured (P i))) n) (first_uncured P (n - (i + 1)) (i + 1)) (first_of first n i (uncured (P i)))
+  pub first-go : (first : Option ℕ)
+      → found_or first (first_uncured P (n - i) i)
+      ≡ found_or (first_of first i (uncured (P i))) (first_uncured P (n - (i + 1)) (i + 1))
   unfolding first_uncured
-  first-go first = go (eqb first n) (uncured (P i)) refl refl
+  first-go (Some k) = refl
+  first-go None = go (uncured (P i)) refl
     where
-      go : (t u : Bool) → eqb first n ≡ t → uncured (P i) ≡ u
-          → cond t (first_uncured P (n - i) i) first
-          ≡ cond (eqb (cond u (cond t i first) first) n) (first_uncured P (n - (i + 1)) (i + 1)) (cond u (cond t i first) first)
-      go true true e f = let ne : i ≡ n → ⊥ = (λ q. omega arith) in rw (ne_eqb i n ne, left h, f)
-      go true false e f = rw (e, left h, f, add-one i)
-      go false true e f = rw e
-      go false false e f = rw e
+      go : (u : Bool) → uncured (P i) ≡ u
+          → first_uncured P (n - i) i ≡ found_or (cond u (Some i) None) (first_uncured P (n - (i + 1)) (i + 1))
+      go true f = rw (left h, f)
+      go false f = rw (left h, f, add-one i)
+
+-- the one found so far is one of the leaves
+pub first-below : (n i : ℕ) → i < n → (first : Option ℕ) (u : Bool) → ((k : ℕ) → first ≡ Some k → k < n) → (k : ℕ) → first_of first i u ≡ Some k → k < n
+first-below n i h (Some j) u f k e = f k e
+first-below n i h None true f k e = let q : i ≡ k = cc in omega arith
+first-below n i h None false f k e = clash (cc)
 
 -- no leaf is left
 pub refused-done : (P : ℕ → LeafPlan) (p : Plan) (n i : ℕ) → n ≤ i → refused_from P p (n - i) i ≡ p
@@ -51,24 +59,16 @@ pub cuts-done : (P : ℕ → LeafPlan) (ms : List ℕ) (n i : ℕ) → n ≤ i �
 unfolding cuts
 cuts-done P ms n i h = let z : n - i ≡ 0 = omega arith in rw z
 
-pub first_done : (P : ℕ → LeafPlan) (n i first : ℕ) → i ≡ n → cond (eqb first n) (first_uncured P (n - i) i) first ≡ first
+pub first-done : (P : ℕ → LeafPlan) (n i : ℕ) (first : Option ℕ) → i ≡ n → found_or first (first_uncured P (n - i) i) ≡ found_or first n
 unfolding first_uncured
-first_done P n i first q = go (eqb first n) refl
-  where
-    go : (t : Bool) → eqb first n ≡ t → cond t (first_uncured P (n - i) i) first ≡ first
-    go true e = let z : n - i ≡ 0 = omega arith in rw z (q ∙ sym (eqb-true first n e))
-    go false e = refl
-
--- no leaf is gone over yet
-pub first-starts : (P : ℕ → LeafPlan) (n : ℕ) → first_uncured P n 0 ≡ cond (eqb n n) (first_uncured P (n - 0) 0) n
-first-starts P n = rw (eq-eqb n n refl, sub-zero)
+first-done P n i first q = let z : n - i ≡ 0 = omega arith in rw (z, q)
 
 -- the answer by the first leaf that no register cures
-pub uncured-settles : (P : ℕ → LeafPlan) (n first : ℕ) → first_uncured P n 0 ≡ first → first < n → settled P n ≡ Refused 10 first
+pub uncured-settles : (P : ℕ → LeafPlan) (n first : ℕ) → first_uncured P n 0 ≡ first → first < n → settled P n ≡ Err (on_leaf NotSeparable first)
 unfolding settled
 uncured-settles P n first e h = rw (e, lt-ltb first n h)
 
 pub cured-settles : (P : ℕ → LeafPlan) (n first : ℕ) (ms : List ℕ) → first_uncured P n 0 ≡ first → n ≤ first → cuts P n 0 (replicate 8 7) ≡ ms
-    → settled P n ≡ Register (pack_from ms 8 0)
+    → settled P n ≡ Ok (pack_from ms 8 0)
 unfolding settled register_for
 cured-settles P n first ms e h q = rw (e, le-ltb first n h, q)

@@ -1,27 +1,27 @@
 -- Demand 3, and the planner's part of demand 1 with the refusals before 10 (document 01, 'The planner' and the planner's sentences of 'The order a judgement
 -- is made in'), on the paper's conditions. `plan-met` of proofs/Demands says that the planner meets them, and `plan-unique` that they leave one
 -- answer for every input; `both-met` and `both-unique` say so of both levels. Assumes nothing.
-use Rattle.std.specs.Prelude.{ℕ, ◌%◌, ◌^◌, ◌≤◌, ◌<◌, ◌≡◌, List, true, cond, not, ◌&&◌, ◌⊎◌, eqb, leb, length}
+use Rattle.std.specs.Prelude.{ℕ, ◌%◌, ◌^◌, ◌≤◌, ◌<◌, ◌≡◌, List, true, cond, not, ◌&&◌, ◌⊎◌, eqb, leb, length, Ok, Err}
 use Rattle.records.specs.Access.{access_number}
 use Rattle.records.specs.Bits.{bit, nibble}
 use Rattle.records.specs.Leaf.{leaf_at, leaf_count, whole_leaves}
-use Rattle.records.specs.Setup.{bit_of, setup_of, read_setup}
+use Rattle.records.specs.Setup.{of_level, setup_of, read_setup}
 use Rattle.records.specs.Values.{check_if, length_check, check_then}
 use Rattle.records.specs.declared.access.Level.{Level}
 use Rattle.records.specs.declared.access.Level.TheVariants.{Privileged, Unprivileged}
 use Rattle.records.specs.declared.access.Right.{Right}
-use Rattle.records.specs.declared.check.Check.{Check}
-use Rattle.records.specs.declared.check.Check.TheVariants as check
 use Rattle.records.specs.declared.leaf.Leaf.{Leaf}
 use Rattle.records.specs.declared.setup.Setup.{Setup}
-use Rattle.records.specs.declared.setup.SetupRead.TheVariants as setup
 use Rattle.rights.specs.Checks.{setup_check, level_check, leaf_check}
 use Rattle.rights.specs.Promise.{all_open, answer_with, allowed_with, level_refusal}
-use Rattle.rights.specs.declared.answers.Answer.TheVariants as answer
-use Rattle.rights.specs.declared.checks.LevelCheck.TheVariants.{Known}
-use Rattle.planner.specs.declared.plan.Plan.{Plan}
-use Rattle.planner.specs.declared.plan.Plan.TheVariants.{Register, Refused}
-use Rattle.planner.specs.declared.plan.Plans.{Plans}
+use Rattle.records.specs.declared.setup.PerLevel.{PerLevel}
+use Rattle.records.specs.declared.refusal.Refusal.TheVariants.{UnknownAccess, NotSeparable, ListLength, OverlayOff}
+use Rattle.rights.specs.declared.answers.Stop.TheVariants.{Refused}
+use Rattle.records.specs.Values.{on_leaf}
+use Rattle.planner.specs.Plan.{Plan}
+use Rattle.records.specs.Values.{Check}
+use Rattle.records.specs.declared.refusal.Refusal.{Refusal}
+use Rattle.records.specs.Values.{refusal_number}
 
 -- Demand 3: for every accepted setup with stage 1 on, every level whose overlay is on and every list of up to 2,048 leaves that pass the planner's leaf
 -- checks. An access is allowed where the judge's rights layer permits it with the register put in place of that level's POR.
@@ -35,8 +35,8 @@ pub record Usable (r : ℕ) : Type 0 where
 -- a leaf passes if the planner has no 5, 6 or 7 for it: no 5, and no access of that level is refused with 77777777 in place of that
 -- level's POR
 pub record Passes (s : Setup) (l : Level) (f : Leaf) : Type 0 where
-  pub checked : leaf_check f ≡ check.Passes
-  pub met : (x : Right) (n : ℕ) → answer_with s l all_open f x ≡ answer.Refused n → ⊥
+  pub checked : leaf_check f ≡ Ok tt
+  pub met : (x : Right) (n : Refusal) → answer_with s l all_open f x ≡ (Err (Refused n)) → ⊥
 
 module _ (s : Setup) (l : Level) (ls : List ℕ) where
   -- the access of that level with right x is allowed on leaf j with r in place of that level's POR
@@ -72,24 +72,24 @@ module _ (s : Setup) (l : Level) (ls : List ℕ) where
   -- what is demanded of the answer p
   pub record Demand3 (p : Plan) : Type 0 where
     -- 10 or a register, and nothing else
-    pub answered : ((k : ℕ) × (p ≡ Refused 10 k)) ⊎ ((r : ℕ) × (p ≡ Register r))
+    pub answered : ((k : ℕ) × (p ≡ (Err (on_leaf NotSeparable k)))) ⊎ ((r : ℕ) × (p ≡ Ok r))
     -- refused with 10: no usable register separates
-    pub refused : (k : ℕ) → p ≡ Refused 10 k → (r : ℕ) → Usable r → Separates r → ⊥
+    pub refused : (k : ℕ) → p ≡ (Err (on_leaf NotSeparable k)) → (r : ℕ) → Usable r → Separates r → ⊥
     -- no usable register separates: refused with 10
-    pub only : ((r : ℕ) → Usable r → Separates r → ⊥) → (k : ℕ) × (p ≡ Refused 10 k)
+    pub only : ((r : ℕ) → Usable r → Separates r → ⊥) → (k : ℕ) × (p ≡ (Err (on_leaf NotSeparable k)))
     -- 10 names the first leaf that no usable register cures
-    pub first : (k : ℕ) → p ≡ Refused 10 k → FirstUncured k
+    pub first : (k : ℕ) → p ≡ (Err (on_leaf NotSeparable k)) → FirstUncured k
     -- otherwise the answer is the largest register that separates
-    pub largest : (r : ℕ) → p ≡ Register r → Largest r
+    pub largest : (r : ℕ) → p ≡ Ok r → Largest r
 
 -- the setup is accepted, none of 1, 2, 3 and 13 applies to it; stage 1 and that level's overlay are on; the list has whole leaves, up to
 -- 2,048, and each passes
 pub record Accepted (bytes : List ℕ) (lv : ℕ) (ls : List ℕ) (s : Setup) (l : Level) : Type 0 where
-  pub read : read_setup bytes ≡ setup.Read s
-  pub checked : setup_check s.control ≡ check.Passes
-  pub level_is : level_check lv ≡ Known l
+  pub read : read_setup bytes ≡ Ok s
+  pub checked : setup_check s.control ≡ Ok tt
+  pub level_is : level_check lv ≡ Ok l
   pub stage1_on : s.control.stage1 ≡ true
-  pub overlay_on : bit_of s.control.overlay l ≡ true
+  pub overlay_on : of_level s.control.overlay l ≡ true
   pub whole : length ls % 18 ≡ 0
   pub few : leaf_count ls ≤ 2048
   pub passes : (j : ℕ) → j < leaf_count ls → Passes s l (leaf_at ls j)
@@ -108,9 +108,9 @@ unfoldable pub start_refusal : List ℕ → ℕ → List ℕ → Check
 start_refusal b lv ls =
     check_then (length_check b 52)
     (check_then (setup_check (setup_of b).control)
-    (check_then (check_if (not (leb lv 1)) 4)
-    (check_then (check_if (not ((setup_of b).control.stage1 && bit_of (setup_of b).control.overlay (level_at lv))) 12)
-    (check_if (not (whole_leaves (length ls))) 11))))
+    (check_then (check_if (not (leb lv 1)) UnknownAccess)
+    (check_then (check_if (not ((setup_of b).control.stage1 && of_level (setup_of b).control.overlay (level_at lv))) OverlayOff)
+    (check_if (not (whole_leaves (length ls))) ListLength))))
 
 -- the refusal of a leaf: 5, then the 6 or 7 that an access of that level meets with 77777777 in place of that level's POR
 abbrev pub leaf_refusal : Setup → Level → Leaf → Check
@@ -123,14 +123,14 @@ PlannerNumber k = ((1 ≤ k) × (k ≤ 7)) ⊎ ((10 ≤ k) × (k ≤ 13))
 -- Of the answer p to the bytes b of a setup, a level and a list: a refusal has one of the paper's numbers; where a refusal before the leaves applies it is
 -- the first of them, with leaf 0; else, where one applies at a leaf, it is the first leaf's; else demand 3 says what is answered, 10 or a register
 pub record PlannerDemands (b : List ℕ) (lv : ℕ) (ls : List ℕ) (p : Plan) : Type 0 where
-  pub numbers : (k i : ℕ) → p ≡ Refused k i → PlannerNumber k
-  pub before : (k : ℕ) → start_refusal b lv ls ≡ check.Refused k → p ≡ Refused k 0
-  pub at_leaf : start_refusal b lv ls ≡ check.Passes → (k i : ℕ) → i < leaf_count ls
-      → ((j : ℕ) → j < i → leaf_refusal (setup_of b) (level_at lv) (leaf_at ls j) ≡ check.Passes)
-      → leaf_refusal (setup_of b) (level_at lv) (leaf_at ls i) ≡ check.Refused k → p ≡ Refused k i
+  pub numbers : (k : Refusal) (i : ℕ) → p ≡ Err (on_leaf k i) → PlannerNumber (refusal_number k)
+  pub before : (k : Refusal) → start_refusal b lv ls ≡ Err k → p ≡ Err (on_leaf k 0)
+  pub at_leaf : start_refusal b lv ls ≡ (Ok tt) → (k : Refusal) (i : ℕ) → i < leaf_count ls
+      → ((j : ℕ) → j < i → leaf_refusal (setup_of b) (level_at lv) (leaf_at ls j) ≡ (Ok tt))
+      → leaf_refusal (setup_of b) (level_at lv) (leaf_at ls i) ≡ Err k → p ≡ Err (on_leaf k i)
   pub settled : Demanded b lv ls p
 
 -- Request A5: both levels are answered, and the demands hold of each separately
-pub record BothDemands (b ls : List ℕ) (r : Plans) : Type 0 where
+pub record BothDemands (b ls : List ℕ) (r : PerLevel Plan) : Type 0 where
   pub privileged : PlannerDemands b 0 ls r.privileged
   pub unprivileged : PlannerDemands b 1 ls r.unprivileged

@@ -12,81 +12,74 @@ ghost use Rattle.planner.specs.Plan.{in_order, plan_of, both_of};
 
 use crate::cut::plan_leaf;
 use crate::masks::{cut_mask, first_of, pack};
-use crate::plan::{LeafPlan, Plan, Plans, Start};
 use crate::start::begin;
 use records::access::Level;
-use records::setup::WordsRead;
-use rights::pass::table::base_table;
+use records::refusal::{LeafRefusal, Refusal};
+use records::setup::PerLevel;
+use rights::pass::table::{BaseTable, base_table};
 
 mod cut;
 mod masks;
-pub mod plan;
 mod start;
 
-// One pass over the list, where `w` is the control word, `on` whether that level's overlay is and `base` the setup's table for stage 1: each leaf's 5, 6
+// One pass over the list, where `w` is the control word, `on` whether that level's overlay is and `base` the setup's tables for stage 1: each leaf's 5, 6
 // or 7, then 10, then the register.
-fn plan_leaves(w: u32, on: bool, base: &[u16; 16], l: Level, leaves: &[u8]) -> Plan
+fn plan_leaves(
+    w: u32,
+    on: bool,
+    base: &BaseTable,
+    l: Level,
+    leaves: &[u8],
+) -> Result<u64, LeafRefusal>
     ensures { result ≡ in_order (plans_by w on base.now l leaves.now) (length leaves.now / 18) }
 {
     let n = leaves.len() / 18;
     let mut masks = [7u8; 8];
-    let mut first = n; // the first leaf that no register cures, or n
-    let mut i = 0;
-    while i < n {
+    let mut first = None; // the first leaf that no register cures
+    for i in 0..n {
         let a = i * 18;
-        match plan_leaf(w, on, base, l, &leaves[a..a + 18]) {
-            LeafPlan::Refused(number) => {
-                return Plan::Refused { number, leaf: i };
-            }
-            LeafPlan::Cut {
-                place,
-                taken,
-                uncured,
-            } => {
-                masks[place] = cut_mask(masks[place], taken);
-                first = first_of(first, n, i, uncured);
-            }
-        }
-        i += 1;
-    }
-    if first < n {
-        return Plan::Refused {
-            number: 10,
-            leaf: first,
+        let cut = match plan_leaf(w, on, base, l, &leaves[a..a + 18]) {
+            Ok(cut) => cut,
+            Err(refusal) => return Err(LeafRefusal { refusal, leaf: i }),
         };
+        masks[cut.place] = cut_mask(masks[cut.place], cut.taken);
+        first = first_of(first, i, cut.uncured);
     }
-    Plan::Register(pack(masks))
+    if let Some(leaf) = first {
+        return Err(LeafRefusal {
+            refusal: Refusal::NotSeparable,
+            leaf,
+        });
+    }
+    Ok(pack(masks))
+}
+
+// 13, the checks before the leaves, then the leaves.
+fn planned(setup: &[u8], level: u64, leaves: &[u8]) -> Result<u64, LeafRefusal>
+    ensures { result ≡ plan_of setup.now level leaves.now }
+{
+    let q = records::setup::read_words(setup)?;
+    let c = records::setup::read_control(q.control);
+    let l = begin(c, level, leaves.len())?;
+    let on = c.overlay.of(l);
+    let base = base_table(q.control, q.pir.privileged, q.pir.unprivileged);
+    plan_leaves(q.control, on, &base, l, leaves)
 }
 
 // The register of a level (0 privileged, 1 unprivileged) for a setup of 52 bytes and leaves of 18 bytes each.
-pub fn plan_level(setup: &[u8], level: u64, leaves: &[u8]) -> Plan
+pub fn plan_level(setup: &[u8], level: u64, leaves: &[u8]) -> Result<u64, LeafRefusal>
     ensures answer { result ≡ plan_of setup.now level leaves.now }
     ensures demands { PlannerDemands setup.now level leaves.now result }
 {
-    let WordsRead::Read(q) = records::setup::read_words(setup) else {
-        return Plan::Refused {
-            number: 13,
-            leaf: 0,
-        };
-    };
-    let c = records::setup::read_control(q.control);
-    match begin(c, level, leaves.len()) {
-        Start::Refused(number) => Plan::Refused { number, leaf: 0 },
-        Start::Leaves(l) => {
-            let overlay = c.overlay;
-            let on = records::setup::bit_of(overlay, l);
-            let base = base_table(q.control, q.pir.privileged, q.pir.unprivileged);
-            plan_leaves(q.control, on, &base, l, leaves)
-        }
-    }
+    planned(setup, level, leaves)
 }
 
 // The registers of both levels (request A5).
-pub fn plan_levels(setup: &[u8], leaves: &[u8]) -> Plans
+pub fn plan_levels(setup: &[u8], leaves: &[u8]) -> PerLevel<Result<u64, LeafRefusal>>
     ensures answer { result ≡ both_of setup.now leaves.now }
     ensures demands { BothDemands setup.now leaves.now result }
 {
-    Plans {
+    PerLevel {
         privileged: plan_level(setup, 0, leaves),
         unprivileged: plan_level(setup, 1, leaves),
     }

@@ -12,16 +12,11 @@ pub(crate) fn cut_mask(mask: u8, taken: u8) -> u8
     mask - (mask & taken)
 }
 
-// The first leaf that no register cures, where `first` is the one before leaf i, or n.
-pub(crate) fn first_of(first: usize, n: usize, i: usize, uncured: bool) -> usize
-    ensures { result ≡ first_of first n i uncured }
+// The first leaf that no register cures, where `first` is the one found before leaf i.
+pub(crate) fn first_of(first: Option<usize>, i: usize, uncured: bool) -> Option<usize>
+    ensures { result ≡ first_of first i uncured }
 {
-    if uncured {
-        if first == n {
-            return i;
-        }
-    }
-    first
+    first.or(uncured.then_some(i))
 }
 
 // The register with mask k in slot k.
@@ -31,9 +26,7 @@ pub(crate) fn pack(masks: [u8; 8]) -> u64
     ensures { result ≡ pack_from masks 8 0 }
 {
     let mut r: u64 = 0;
-    let mut s: usize = 8;
-    while 0 < s {
-        s = s - 1;
+    for s in (0..8).rev() {
         r = r * 16 + wide(masks[s]);
     }
     r

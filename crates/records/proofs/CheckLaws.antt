@@ -11,8 +11,10 @@ use lib.Dec.{ltb}
 use lib.ListN.{length, get_or}
 use borrow.Author.Tests.{ltb-true, ltb-false}
 use Rattle.records.proofs.Cases.{clash}
-use Rattle.std.specs.Prelude.{Ok, Err}
-use Rattle.records.specs.Values.{Check, passes, check_if, check_then, first_of}
+use Rattle.std.specs.Prelude.{Result, Ok, Err}
+use Rattle.records.specs.Values.{Check, passes, check_if, check_then, first_of, on_leaf}
+use Rattle.records.specs.declared.refusal.LeafRefusal.{LeafRefusal}
+use Rattle.records.specs.declared.refusal.Refusal.TheVariants.{IllFormed}
 use Rattle.records.specs.declared.refusal.Refusal.{Refusal}
 
 -- a chain of checks that passes, and one that refuses
@@ -85,3 +87,19 @@ ways (Ok u) R n = go (decided R n)
     go : AllPass R n ⊎ ((k : Refusal) × (i : ℕ) × FirstAt R n k i) → Ways passes R n
     go (inl h) = none-refused refl h
     go (inr (k, i, h)) = refused-at k i refl h
+
+-- the refusal and the leaf of a list's answer that refuses; any refusal and leaf for one that does not
+abbrev refusal_in : {A : Type 0} → Result A LeafRefusal → Refusal
+refusal_in (Ok a) = IllFormed
+refusal_in (Err e) = e.refusal
+
+abbrev leaf_in : {A : Type 0} → Result A LeafRefusal → ℕ
+leaf_in (Ok a) = 0
+leaf_in (Err e) = e.leaf
+
+-- two that refuse and are equal have the same
+abbrev pub refused_on : {A : Type 0} → Refusal → ℕ → Result A LeafRefusal
+refused_on r i = Err (on_leaf r i)
+
+pub same-refusal : {A : Type 0} {r s : Refusal} {i j : ℕ} → refused_on {A = A} r i ≡ refused_on s j → (r ≡ s) × (i ≡ j)
+same-refusal e = (ap refusal_in e, ap leaf_in e)

@@ -22,11 +22,11 @@ refusal_number OverlayOff = 12
 refusal_number IllFormed = 13
 
 -- a list's refusal; and one with no leaf at fault, whose index is 0
-abbrev pub at_leaf : Refusal → ℕ → LeafRefusal
-at_leaf r i = record { refusal = r; leaf = i }
+abbrev pub on_leaf : Refusal → ℕ → LeafRefusal
+on_leaf r i = record { refusal = r; leaf = i }
 
 abbrev pub unplaced : Refusal → LeafRefusal
-unplaced r = at_leaf r 0
+unplaced r = on_leaf r 0
 
 -- a check that gives no fault: it passes, or refuses
 abbrev pub Check : Type 0

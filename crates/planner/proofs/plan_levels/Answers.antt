@@ -1,13 +1,13 @@
 -- Each level has its own plan, and so both meet the demands.
 use Rattle.std.proofs.Common.{◌≡◌, ap₂}
 use Rattle.planner.specs.Plan.{both_of}
-use Rattle.planner.specs.declared.plan.Plan.{Plan}
-use Rattle.planner.specs.declared.plan.Plans.{Plans}
+use Rattle.records.specs.declared.setup.PerLevel.{PerLevel}
 use Rattle.planner.proofs.Demands.{both-met}
 use Rattle.planner.proofs.plan_levels.Goals as goal
+use Rattle.planner.specs.Plan.{Plan}
 
 -- the two answers of a level each
-abbrev plans : Plan → Plan → Plans
+abbrev plans : Plan → Plan → PerLevel Plan
 plans p u = record { privileged = p; unprivileged = u }
 
 pub returns : goal.returns

@@ -5,6 +5,3 @@ use Rattle.planner.proofs.masks.pack.Given as goal
 
 abbrev pub invariant-loop-s : goal.invariant-loop-s
 invariant-loop-s l = record { within : l.s ≤ 8; packed : l.r ≡ pack_from l.masks (8 - l.s) l.s }
-
-abbrev pub decreases-loop-s : goal.decreases-loop-s
-decreases-loop-s l = l.s
