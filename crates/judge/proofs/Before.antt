@@ -13,45 +13,41 @@ use Rattle.records.specs.Descriptor.{stage1_of, stage2_of}
 use Rattle.records.specs.Leaf.{read_leaf, leaf_at, leaf_count, whole_leaves}
 use Rattle.records.specs.Setup.{read_setup}
 use Rattle.records.specs.Values.{check_if, check_then, if_passes}
-use Rattle.records.specs.declared.check.Check.{Check}
-use Rattle.records.specs.declared.check.Check.TheVariants as check
 use Rattle.records.specs.declared.leaf.Leaf.{Leaf}
-use Rattle.records.specs.declared.leaf.LeafRead.{LeafRead}
-use Rattle.records.specs.declared.leaf.LeafRead.TheVariants as leaf
 use Rattle.records.specs.declared.setup.Setup.{Setup}
-use Rattle.records.specs.declared.setup.SetupRead.{SetupRead}
-use Rattle.records.specs.declared.setup.SetupRead.TheVariants as setup
 use Rattle.rights.proofs.Before.{rights_answer, uncaused, same-rights-answer}
 use Rattle.rights.specs.Checks.{setup_check}
 use Rattle.rights.specs.Order as order
-use Rattle.rights.specs.declared.answers.Answer.{Answer}
-use Rattle.rights.specs.declared.answers.Answer.TheVariants as answer
 use Rattle.attributes.specs.Order.{attributes_of}
-use Rattle.attributes.specs.declared.Attributes.{Attributes}
-use Rattle.attributes.specs.declared.Attributes.TheVariants as attributes
 use Rattle.judge.specs.Judge.{fetches, combined, after_rights}
 use Rattle.judge.specs.Judge as today
 use Rattle.judge.specs.LeafRights.{add, gather, judged_accesses}
 use Rattle.judge.specs.LeafRights as rights
 use Rattle.judge.specs.List.{Walk, bytes, refused, walk, ListResult}
 use Rattle.judge.specs.List as list
-use Rattle.judge.specs.declared.answers.Judgement.{Judgement}
-use Rattle.judge.specs.declared.answers.Judgement.TheVariants.{Allowed, Fault, Refused}
-use Rattle.judge.specs.declared.answers.LeafRights.{LeafRights}
-use Rattle.judge.specs.declared.answers.Listed.{Listed}
-use Rattle.judge.specs.declared.answers.Listed.TheVariants as listed
+use Rattle.std.specs.Prelude.{Result, Ok, Err}
+use Rattle.records.specs.declared.refusal.Refusal.{Refusal}
+use Rattle.records.specs.declared.refusal.Refusal.TheVariants.{ListLength}
+use Rattle.rights.specs.declared.answers.Stop.TheVariants.{Faulted, Refused}
+use Rattle.records.specs.Values.{on_leaf}
+use Rattle.judge.specs.Answers.{Listed}
+use Rattle.judge.specs.Answers.{LeafRights}
+use Rattle.judge.specs.Answers.{Judgement}
+use Rattle.rights.specs.Answers.{Answer}
+use Rattle.records.specs.Values.{Check}
+use Rattle.attributes.specs.declared.Memory.{Memory}
 
 -- The judge, as before
 abbrev judged : Setup → Leaf → ℕ → Judgement
 judged s f n = after_rights (rights_answer s f n) (combined (attributes_of s (stage1_of f.stage1) (stage2_of f.stage2) (fetches n)))
 
-abbrev judge_leaf : Setup → ℕ → LeafRead → Judgement
-judge_leaf s n (leaf.Read f) = judged s f n
-judge_leaf s n (leaf.Refused k) = Refused k
+abbrev judge_leaf : Setup → ℕ → (Result Leaf Refusal) → Judgement
+judge_leaf s n (Ok f) = judged s f n
+judge_leaf s n (Err k) = Err (Refused k)
 
-abbrev judge_setup : LeafRead → ℕ → SetupRead → Judgement
-judge_setup f n (setup.Read s) = judge_leaf s n f
-judge_setup f n (setup.Refused k) = Refused k
+abbrev judge_setup : (Result Leaf Refusal) → ℕ → (Result Setup Refusal) → Judgement
+judge_setup f n (Ok s) = judge_leaf s n f
+judge_setup f n (Err k) = Err (Refused k)
 
 abbrev judge_of : List ℕ → List ℕ → ℕ → Judgement
 judge_of s f n = judge_setup (read_leaf f) n (read_setup s)
@@ -60,43 +56,43 @@ judge_of s f n = judge_setup (read_leaf f) n (read_setup s)
 abbrev leaf_rights : Setup → Leaf → LeafRights
 leaf_rights s f = gather (judged s f) (judged_accesses s.control.two)
 
-pub record Result : Type 0 where
+pub record Former : Type 0 where
   pub answer : Listed
   pub out : List ℕ
 
-abbrev refuse : ℕ → ℕ → List ℕ → Result
-refuse n i o = record { answer = listed.Refused n i; out = o }
+abbrev refuse : Refusal → ℕ → List ℕ → Former
+refuse n i o = record { answer = (Err (on_leaf n i)); out = o }
 
-abbrev finish : Walk → ℕ → List ℕ → Result
-finish (bytes b) n o = record { answer = listed.Done n; out = over b o }
+abbrev finish : Walk → ℕ → List ℕ → Former
+finish (bytes b) n o = record { answer = Ok n; out = over b o }
 finish (refused k i) n o = refuse k i o
 
 abbrev fits : ℕ → ℕ → Bool
 fits len room = whole_leaves len && leb (len / 18) room
 
-abbrev leaves_of : Setup → List ℕ → List ℕ → Result
+abbrev leaves_of : Setup → List ℕ → List ℕ → Former
 leaves_of s ls o = finish (walk (λ (i : ℕ). leaf_rights s (leaf_at ls i)) 0 (leaf_count ls)) (leaf_count ls) o
 
-abbrev list_read : SetupRead → List ℕ → List ℕ → Result
-list_read (setup.Read s) ls o =
-    if_passes (check_then (setup_check s.control) (check_if (not (fits (length ls) (length o))) 11)) (λ (n : ℕ). refuse n 0 o) (leaves_of s ls o)
-list_read (setup.Refused k) ls o = refuse k 0 o
+abbrev list_read : (Result Setup Refusal) → List ℕ → List ℕ → Former
+list_read (Ok s) ls o =
+    if_passes (check_then (setup_check s.control) (check_if (not (fits (length ls) (length o))) ListLength)) (λ (n : Refusal). refuse n 0 o) (leaves_of s ls o)
+list_read (Err k) ls o = refuse k 0 o
 
-abbrev list_of : List ℕ → List ℕ → List ℕ → Result
+abbrev list_of : List ℕ → List ℕ → List ℕ → Former
 list_of s ls o = list_read (read_setup s) ls o
 
 -- a judgement without its cause
 abbrev pub plain : Judgement → Judgement
-plain (Allowed m) = Allowed m
-plain (Fault g) = Fault (record { stage = g.stage; kind = g.kind; cause = 0 })
-plain (Refused n) = Refused n
+plain (Ok m) = Ok m
+plain (Err (Faulted g)) = Err (Faulted (record { stage = g.stage; kind = g.kind; cause = 0 }))
+plain (Err (Refused n)) = Err (Refused n)
 
-after : (x : Answer) (z : Attributes) → plain (after_rights x (combined z)) ≡ after_rights (uncaused x) (combined z)
+after : (x : Answer) (z : (Result Memory Refusal)) → plain (after_rights x (combined z)) ≡ after_rights (uncaused x) (combined z)
 unfolding uncaused
-after answer.Permitted (attributes.Combined m) = refl
-after answer.Permitted (attributes.Refused n) = refl
-after (answer.Fault g) z = refl
-after (answer.Refused n) z = refl
+after (Ok u) (Ok m) = refl
+after (Ok u) (Err n) = refl
+after (Err (Faulted g)) z = refl
+after (Err (Refused n)) z = refl
 
 same-judged : (s : Setup) (f : Leaf) (n : ℕ) → plain (today.judged s f n) ≡ judged s f n
 unfolding today.judged
@@ -109,16 +105,16 @@ pub same-judge : (b c : List ℕ) (n : ℕ) → plain (today.judge_of b c n) ≡
 unfolding today.judge_of
 same-judge b c n = go (read_setup b) (read_leaf c)
   where
-    go : (x : SetupRead) (y : LeafRead) → plain (today.judge_setup y n x) ≡ judge_setup y n x
-    go (setup.Refused k) y = refl
-    go (setup.Read s) (leaf.Refused k) = refl
-    go (setup.Read s) (leaf.Read f) = same-judged s f n
+    go : (x : (Result Setup Refusal)) (y : (Result Leaf Refusal)) → plain (today.judge_setup y n x) ≡ judge_setup y n x
+    go (Err k) y = refl
+    go (Ok s) (Err k) = refl
+    go (Ok s) (Ok f) = same-judged s f n
 
 -- a leaf's rights do not read causes
 blind : (j : Judgement) (w : ℕ) (r : LeafRights) → add j w r ≡ add (plain j) w r
-blind (Allowed m) w r = refl
-blind (Fault g) w r = refl
-blind (Refused n) w r = refl
+blind (Ok m) w r = refl
+blind (Err (Faulted g)) w r = refl
+blind (Err (Refused n)) w r = refl
 
 gathered : (f g : ℕ → Judgement) → ((a : ℕ) → plain (f a) ≡ g a) → (xs : List ℕ) → gather f xs ≡ gather g xs
 gathered f g e [] = refl
@@ -129,7 +125,7 @@ unfolding rights.leaf_rights
 same-rights s f = gathered (today.judged s f) (judged s f) (same-judged s f) (judged_accesses s.control.two)
 
 -- the list's answer and output, where the causes fit
-abbrev outcome : ListResult → Result
+abbrev outcome : ListResult → Former
 outcome r = record { answer = r.answer; out = r.out }
 
 -- walks over functions that agree are the same
@@ -146,13 +142,13 @@ unfolding list.list_of list.list_check list.leaves_of
 same-list b ls o c h = go (read_setup b)
   where
     leaves : (s : Setup) (k : Check)
-        → outcome (if_passes k (λ (n : ℕ). list.refuse n 0 o c) (list.finish (walk (λ (i : ℕ). rights.leaf_rights s (leaf_at ls i)) 0 (leaf_count ls)) (list.causes_of s ls) (leaf_count ls) o c))
-        ≡ if_passes k (λ (n : ℕ). refuse n 0 o) (leaves_of s ls o)
-    leaves s check.Passes =
+        → outcome (if_passes k (λ (n : Refusal). list.refuse n 0 o c) (list.finish (walk (λ (i : ℕ). rights.leaf_rights s (leaf_at ls i)) 0 (leaf_count ls)) (list.causes_of s ls) (leaf_count ls) o c))
+        ≡ if_passes k (λ (n : Refusal). refuse n 0 o) (leaves_of s ls o)
+    leaves s (Ok u) =
         finished (walk (λ (i : ℕ). rights.leaf_rights s (leaf_at ls i)) 0 (leaf_count ls)) (list.causes_of s ls) (leaf_count ls) o c
         ∙ ap (λ (w : Walk). finish w (leaf_count ls) o)
         (same-walk (λ (i : ℕ). rights.leaf_rights s (leaf_at ls i)) (λ (i : ℕ). leaf_rights s (leaf_at ls i)) (λ i. same-rights s (leaf_at ls i)) 0 (leaf_count ls))
-    leaves s (check.Refused n) = refl
+    leaves s (Err n) = refl
 
     and-true : (x : Bool) → (x && true) ≡ x
     and-true true = refl
@@ -161,8 +157,8 @@ same-list b ls o c h = go (read_setup b)
     room : list.fits (length ls) (length o) (length c) ≡ fits (length ls) (length o)
     room = rw (le-leb (6 * (length ls / 18)) (length c) h, and-true (leb (length ls / 18) (length o)))
 
-    go : (x : SetupRead) → outcome (list.list_read x ls o c) ≡ list_read x ls o
-    go (setup.Read s) =
-        leaves s (check_then (setup_check s.control) (check_if (not (list.fits (length ls) (length o) (length c))) 11))
-        ∙ ap (λ (t : Bool). if_passes (check_then (setup_check s.control) (check_if (not t) 11)) (λ (n : ℕ). refuse n 0 o) (leaves_of s ls o)) room
-    go (setup.Refused k) = refl
+    go : (x : (Result Setup Refusal)) → outcome (list.list_read x ls o c) ≡ list_read x ls o
+    go (Ok s) =
+        leaves s (check_then (setup_check s.control) (check_if (not (list.fits (length ls) (length o) (length c))) ListLength))
+        ∙ ap (λ (t : Bool). if_passes (check_then (setup_check s.control) (check_if (not t) ListLength)) (λ (n : Refusal). refuse n 0 o) (leaves_of s ls o)) room
+    go (Err k) = refl

@@ -18,25 +18,28 @@ use Rattle.judge.specs.Judge.{judged}
 use Rattle.judge.specs.LeafRights.{add, gather, judged_accesses, leaf_rights}
 use Rattle.judge.specs.List.{Walk, bytes, refused, step, walk}
 use Rattle.records.specs.Access.{digit}
-use Rattle.judge.specs.declared.answers.Judgement.{Judgement}
-use Rattle.judge.specs.declared.answers.Judgement.TheVariants as judgement
-use Rattle.judge.specs.declared.answers.LeafRights.{LeafRights}
-use Rattle.judge.specs.declared.answers.LeafRights.TheVariants.{Rights, Refused}
+use Rattle.std.specs.Prelude.{Ok, Err}
+use Rattle.rights.specs.declared.answers.Stop.TheVariants.{Faulted, Refused}
+use Rattle.judge.specs.Answers.{LeafRights}
+use Rattle.judge.specs.Answers.{Judgement}
 
 -- an access is allowed
 abbrev pub is_allowed : Judgement → Bool
-is_allowed (judgement.Allowed m) = true
-is_allowed (judgement.Fault g) = false
-is_allowed (judgement.Refused n) = false
+is_allowed (Ok m) = true
+is_allowed (Err (Faulted g)) = false
+is_allowed (Err (Refused n)) = false
 
 -- the weight of an access in rights
-weighed : (j : Judgement) (w b : ℕ) (g : LeafRights) → add j w g ≡ Rights b → (c : ℕ) × (g ≡ Rights c) × (b ≡ w * digit (is_allowed j) + c)
-weighed (judgement.Allowed m) w b (Rights c) e = (c, refl, (let q : w + c ≡ b = cc in rw mul-one (sym q)))
-weighed (judgement.Allowed m) w b (Refused n) e = clash (cc)
-weighed (judgement.Fault f) w b g e = (b, e, rw (mul-zero, zero-add))
-weighed (judgement.Refused n) w b g e = clash (cc)
+weighed : (j : Judgement) (w b : ℕ) (g : LeafRights) → add j w g ≡ Ok b → (c : ℕ) × (g ≡ Ok c) × (b ≡ w * digit (is_allowed j) + c)
+weighed (Ok m) w b (Ok c) e = (c, refl, (let q : w + c ≡ b = cc in rw mul-one (sym q)))
+weighed (Ok m) w b (Err n) e = clash (cc)
+weighed (Err (Faulted f)) w b g e = (b, e, rw (mul-zero, zero-add))
+weighed (Err (Refused n)) w b g e = clash (cc)
 
-none : (b : ℕ) → Rights 0 ≡ Rights b → b ≡ 0
+abbrev rights : ℕ → LeafRights
+rights b = Ok b
+
+none : (b : ℕ) → rights 0 ≡ rights b → b ≡ 0
 none b e = cc
 
 -- six bits as a number, and back
@@ -64,7 +67,7 @@ high b a h k =
     ap (λ (x : ℕ). eqb (x % 2) 1) e
 
 -- the bits of a leaf's rights, by how many accesses are judged
-leaf-bits-two : (j : ℕ → Judgement) (b : ℕ) → gather j (judged_accesses true) ≡ Rights b
+leaf-bits-two : (j : ℕ → Judgement) (b : ℕ) → gather j (judged_accesses true) ≡ Ok b
     → (b < 64) × ((a : ℕ) → a < 6 → bit b a ≡ (leb a 5 && is_allowed (j a)))
 leaf-bits-two j b e =
     let u = weighed (j 0) 1 b _ e in
@@ -81,7 +84,7 @@ leaf-bits-two j b e =
           (ap bits_of q ∙ bits_are (is_allowed (j 0)) (is_allowed (j 1)) (is_allowed (j 2)) (is_allowed (j 3)) (is_allowed (j 4)) (is_allowed (j 5))) a h,
     )
 
-leaf-bits-one : (j : ℕ → Judgement) (b : ℕ) → gather j (judged_accesses false) ≡ Rights b
+leaf-bits-one : (j : ℕ → Judgement) (b : ℕ) → gather j (judged_accesses false) ≡ Ok b
     → (b < 64) × ((a : ℕ) → a < 6 → bit b a ≡ (leb a 2 && is_allowed (j a)))
 leaf-bits-one j b e =
     let u = weighed (j 0) 1 b _ e in
@@ -95,7 +98,7 @@ leaf-bits-one j b e =
     )
 
 -- bit a is on exactly where access a is judged and allowed
-pub leaf-bits : (s : Setup) (l : Leaf) (b : ℕ) → leaf_rights s l ≡ Rights b → (a : ℕ) → bit b a ≡ (is_judged s.control.two a && is_allowed (judged s l a))
+pub leaf-bits : (s : Setup) (l : Leaf) (b : ℕ) → leaf_rights s l ≡ Ok b → (a : ℕ) → bit b a ≡ (is_judged s.control.two a && is_allowed (judged s l a))
 unfolding leaf_rights
 leaf-bits s l b e a = go s.control.two e
   where
@@ -104,27 +107,27 @@ leaf-bits s l b e a = go s.control.two e
     above m g h f true q = f a (let k = leb-true a 5 q in omega arith)
     above m g h f false q = let k = leb-false a 5 q in high b a h k ∙ rw (lt-leb a m (omega arith))
 
-    go : (two : Bool) → gather (judged s l) (judged_accesses two) ≡ Rights b → bit b a ≡ (is_judged two a && is_allowed (judged s l a))
+    go : (two : Bool) → gather (judged s l) (judged_accesses two) ≡ Ok b → bit b a ≡ (is_judged two a && is_allowed (judged s l a))
     go true q = let x = leaf-bits-two (judged s l) b q in above 5 (omega arith) x.0 x.1 (leb a 5) refl
     go false q = let x = leaf-bits-one (judged s l) b q in above 2 (omega arith) x.0 x.1 (leb a 5) refl
 
 -- a step that goes on
 stepped : (x : LeafRights) (k : ℕ) (w : Walk) (bs : List ℕ) → step x k w ≡ bytes bs
-    → (b : ℕ) × (more : List ℕ) × (x ≡ Rights b) × (w ≡ bytes more) × (b ∷ more ≡ bs)
-stepped (Rights b) k (bytes more) bs e = (b, more, refl, refl, cc)
-stepped (Rights b) k (refused n i) bs e = clash (cc)
-stepped (Refused n) k w bs e = clash (cc)
+    → (b : ℕ) × (more : List ℕ) × (x ≡ Ok b) × (w ≡ bytes more) × (b ∷ more ≡ bs)
+stepped (Ok b) k (bytes more) bs e = (b, more, refl, refl, cc)
+stepped (Ok b) k (refused n i) bs e = clash (cc)
+stepped (Err n) k w bs e = clash (cc)
 
 -- the bytes of a walk are the rights of its leaves
 pub walked : (f : ℕ → LeafRights) (m k : ℕ) (bs : List ℕ) → walk f k m ≡ bytes bs
-    → (length bs ≡ m) × ((i : ℕ) → i < m → f (k + i) ≡ Rights (get_or bs i 0))
+    → (length bs ≡ m) × ((i : ℕ) → i < m → f (k + i) ≡ Ok (get_or bs i 0))
 walked f zero k bs e = (let q : [] ≡ bs = cc in ap length (sym q), λ i h. absurd (not-suc-le-zero h))
 walked f (suc m) k bs e =
     let x = stepped (f k) k (walk f (suc k) m) bs e in
     let y = walked f m (suc k) x.1 x.3 in
     (ap length (sym x.4) ∙ ap suc y.0, at_leaf x.0 x.1 x.2 x.4 y.1)
   where
-    at_leaf : (b : ℕ) (more : List ℕ) → f k ≡ Rights b → b ∷ more ≡ bs → ((i : ℕ) → i < m → f (suc k + i) ≡ Rights (get_or more i 0))
-        → (i : ℕ) → i < suc m → f (k + i) ≡ Rights (get_or bs i 0)
+    at_leaf : (b : ℕ) (more : List ℕ) → f k ≡ Ok b → b ∷ more ≡ bs → ((i : ℕ) → i < m → f (suc k + i) ≡ Ok (get_or more i 0))
+        → (i : ℕ) → i < suc m → f (k + i) ≡ Ok (get_or bs i 0)
     at_leaf b more p q r zero h = rw (add-zero, ← q) p
     at_leaf b more p q r (suc i) h = rw (← q, add-suc, ← suc-add) (r i (le_of_suc-le-suc h))

@@ -6,17 +6,19 @@ use native.Mathlib.Omega.{arith}
 use Rattle.records.proofs.CheckLaws.{Ways, refused-before, refused-at, none-refused, ways}
 use Rattle.records.specs.Leaf.{leaf_at, leaf_count}
 use Rattle.records.specs.Setup.{setup_of}
-use Rattle.records.specs.declared.check.Check.{Check}
 use Rattle.judge.specs.Demands.{start_refusal, leaf_refusal, ListDemands}
 use Rattle.judge.specs.List.{list_of}
-use Rattle.judge.specs.declared.answers.Listed.{Listed}
-use Rattle.judge.specs.declared.answers.Listed.TheVariants.{Done, Refused}
 use Rattle.judge.proofs.ListDemands.{start-passes}
 use Rattle.judge.proofs.ListMet.{list-met}
+use Rattle.std.specs.Prelude.{Ok, Err}
+use Rattle.records.specs.Values.{on_leaf}
+use Rattle.judge.specs.Answers.{Listed}
+use Rattle.records.specs.Values.{Check}
+use Rattle.records.specs.declared.refusal.Refusal.{Refusal}
 
 pub data Within : Listed → Type 0 where
-  done : (n : ℕ) → n ≤ 2048 → Within (Done n)
-  refusal : (k i : ℕ) → i < 2048 → Within (Refused k i)
+  done : (n : ℕ) → n ≤ 2048 → Within (Ok n)
+  refusal : (k : Refusal) (i : ℕ) → i < 2048 → Within (Err (on_leaf k i))
 
 module _ (b ls o c : List ℕ) where
   -- the refusal of leaf i

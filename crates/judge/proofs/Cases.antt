@@ -19,9 +19,9 @@ use Rattle.attributes.specs.StageTwoType.{mem_attr_of, reserved_mem_attr}
 use Rattle.judge.specs.Cases.{Case, setup_bytes, leaf_bytes, starred, mair}
 use Rattle.judge.specs.Judge.{judged, judge_of}
 use Rattle.judge.specs.LeafRights.{leaf_rights}
-use Rattle.judge.specs.declared.answers.Judgement.{Judgement}
-use Rattle.judge.specs.declared.answers.LeafRights.{LeafRights}
-use Rattle.judge.specs.declared.answers.LeafRights.TheVariants.{Rights}
+use Rattle.std.specs.Prelude.{Ok}
+use Rattle.judge.specs.Answers.{LeafRights}
+use Rattle.judge.specs.Answers.{Judgement}
 
 -- the judge's answer to a case, and its leaf's rights where the table has them
 abbrev answered : Case → Judgement × List LeafRights
@@ -30,6 +30,6 @@ answered c =
     let f = leaf_bytes c.stage1 c.stage2 c.limits in
     (judge_of s f c.access, map (λ (n : ℕ). leaf_rights (setup_of s) (leaf_of f)) c.rights)
 
-pub starred-cases : map answered starred ≡ map (λ (c : Case). (c.answer, map Rights c.rights)) starred
+pub starred-cases : map answered starred ≡ map (λ (c : Case). (c.answer, map Ok c.rights)) starred
 unfolding judge_of leaf_rights judged read_setup setup_of setup_from words_of control_of le64 read_leaf leaf_of limits_of stage1_of stage2_of base_answer ap direct_steps base_rights base_cause setup_check access_check leaf_check stage1_answer stages_answer rights_answer xn_px xn_ux stage2_rights stage2_cause stage2_answer combine result_of result_byte mair_byte off_byte stage1_byte reserved_byte memory_of check_of attributes_of reserved_sh stage1_sh stage2_sh combined_sh result_sh mem_attr_of reserved_mem_attr
 starred-cases = refl

@@ -14,8 +14,6 @@ use Rattle.records.specs.Access.{access_at}
 use Rattle.records.specs.Descriptor.{stage1_of, stage2_of, limits_of}
 use Rattle.records.specs.Mirror.BitLists.{bits}
 use Rattle.records.specs.Values.{check_if}
-use Rattle.records.specs.declared.check.Check.{Check}
-use Rattle.records.specs.declared.check.Check.TheVariants as check
 use Rattle.records.specs.declared.leaf.Leaf.{Leaf}
 use Rattle.records.specs.declared.setup.Setup.{Setup}
 use Rattle.rights.proofs.Named.{Named, permits, faults, refuses, stage1-named, stage2-named, cause-fixes, Fixed}
@@ -28,8 +26,6 @@ use Rattle.rights.specs.Mirror.Agreement.{Agrees, refused_codes, refuses_in}
 use Rattle.rights.specs.Mirror.Parts.{one_part, known_part, stages_word, leaf_word}
 use Rattle.rights.specs.Mirror.Words.{Word, joined, six_bits, number_of}
 use Rattle.rights.specs.Order.{leaf_answer, rights_answer}
-use Rattle.rights.specs.declared.answers.Answer.{Answer}
-use Rattle.rights.specs.declared.answers.Answer.TheVariants as answer
 use Rattle.attributes.specs.Mirror.Known.{passes}
 use Rattle.attributes.specs.Order.{check_of, memory_of, combined_if, attributes_of}
 use Rattle.attributes.specs.declared.Memory.{Memory}
@@ -39,24 +35,28 @@ use Rattle.judge.specs.Judge.{fetches, combined, after_rights, judged}
 use Rattle.judge.specs.LeafRights.{add, gather, judged_accesses, leaf_rights}
 use Rattle.judge.specs.List.{cause_at}
 use Rattle.judge.specs.Mirror.Words.{marks_in, mark_of, known_of, word_of, rights_in, cause_in}
-use Rattle.judge.specs.declared.answers.Judgement.{Judgement}
-use Rattle.judge.specs.declared.answers.Judgement.TheVariants as judgement
-use Rattle.judge.specs.declared.answers.LeafRights.{LeafRights}
-use Rattle.judge.specs.declared.answers.LeafRights.TheVariants.{Rights, Refused}
+use Rattle.std.specs.Prelude.{Ok, Err}
+use Rattle.records.specs.declared.refusal.Refusal.TheVariants.{LeafBits}
+use Rattle.rights.specs.declared.answers.Stop.TheVariants.{Faulted, Refused}
+use Rattle.rights.specs.Answers.{Answer}
+use Rattle.judge.specs.Answers.{LeafRights}
+use Rattle.judge.specs.Answers.{Judgement}
+use Rattle.records.specs.Values.{Check}
+use Rattle.records.specs.declared.refusal.Refusal.{Refusal}
 
 -- whether a judgement refuses; and if it does not, whether it allows, and its cause
 abbrev Judged : Judgement → Bool → Bool → ℕ → Type 0
-Judged (judgement.Allowed m) r p c = (r ≡ false) × (p ≡ true) × (c ≡ 0)
-Judged (judgement.Fault g) r p c = (r ≡ false) × (p ≡ false) × (c ≡ g.cause)
-Judged (judgement.Refused n) r p c = r ≡ true
+Judged (Ok m) r p c = (r ≡ false) × (p ≡ true) × (c ≡ 0)
+Judged (Err (Faulted g)) r p c = (r ≡ false) × (p ≡ false) × (c ≡ g.cause)
+Judged (Err (Refused n)) r p c = r ≡ true
 
 -- the attribute steps after both stages
 after-stages : (x : Answer) (z : Check) (m : Memory) (r p : Bool) (c : ℕ) → Agrees x r p c
     → Judged (after_rights x (combined (combined_if z m))) (r || (p && not (passes z))) p c
-after-stages answer.Permitted check.Passes m r p c h = (rw (h.0, h.1), h.1, h.2)
-after-stages answer.Permitted (check.Refused n) m r p c h = rw (h.0, h.1)
-after-stages (answer.Fault g) z m r p c h = (rw (h.0, h.1), h.1, h.2)
-after-stages (answer.Refused n) z m r p c h = rw h
+after-stages (Ok u) (Ok v) m r p c h = (rw (h.0, h.1), h.1, h.2)
+after-stages (Ok u) (Err n) m r p c h = rw (h.0, h.1)
+after-stages (Err (Faulted g)) z m r p c h = (rw (h.0, h.1), h.1, h.2)
+after-stages (Err (Refused n)) z m r p c h = rw h
 
 -- the accesses of a leaf, gathered
 abbrev Each : (ℕ → Type 0) → List ℕ → Type 0
@@ -73,14 +73,14 @@ sum_of p (a ∷ more) = cond (p a) (2 ^ a + sum_of p more) (sum_of p more)
 
 -- refused, or these rights
 abbrev Gathered : Bool → LeafRights → ℕ → Type 0
-Gathered true g b = (k : ℕ) × (g ≡ Refused k)
-Gathered false g b = g ≡ Rights b
+Gathered true g b = (k : Refusal) × (g ≡ Err k)
+Gathered false g b = g ≡ Ok b
 
 one-access : (j : Judgement) (r p : Bool) (c : ℕ) → Judged j r p c → (w s : ℕ) (b : Bool) (g : LeafRights) → Gathered b g s → Gathered (r || b) (add j w g) (cond p (w + s) s)
-one-access (judgement.Allowed m) r p c h w s true g q = rw h.0 (q.0, rw q.1)
-one-access (judgement.Allowed m) r p c h w s false g q = rw (h.0, h.1, q)
-one-access (judgement.Fault f) r p c h w s b g q = rw (h.0, h.1) q
-one-access (judgement.Refused n) r p c h w s b g q = rw h (n, refl)
+one-access (Ok m) r p c h w s true g q = rw h.0 (q.0, rw q.1)
+one-access (Ok m) r p c h w s false g q = rw (h.0, h.1, q)
+one-access (Err (Faulted f)) r p c h w s b g q = rw (h.0, h.1) q
+one-access (Err (Refused n)) r p c h w s b g q = rw h (n, refl)
 
 gathered : (j : ℕ → Judgement) (r p : ℕ → Bool) (c : ℕ → ℕ) (l : List ℕ) → Each (λ (n : ℕ). Judged (j n) (r n) (p n) (c n)) l → Gathered (some_of r l) (gather j l) (sum_of p l)
 gathered j r p c [] h = refl
@@ -88,9 +88,9 @@ gathered j r p c (a ∷ l) h = one-access (j a) (r a) (p a) (c a) h.0 (2 ^ a) (s
 
 -- the cause of a judgement that does not refuse
 own-cause : (j : Judgement) (r p : Bool) (c : ℕ) → Judged j r p c → r ≡ false → c ≡ (judgement_values j).cause
-own-cause (judgement.Allowed m) r p c h e = h.2
-own-cause (judgement.Fault g) r p c h e = h.2
-own-cause (judgement.Refused n) r p c h e = let z : true ≡ false = sym h ∙ e in clash (cc)
+own-cause (Ok m) r p c h e = h.2
+own-cause (Err (Faulted g)) r p c h e = h.2
+own-cause (Err (Refused n)) r p c h e = let z : true ≡ false = sym h ∙ e in clash (cc)
 
 -- a cause is one of fifteen
 named-stages : (x y : Answer) → Named 1 x → Named 2 y → Fixed (follow x y)
@@ -99,9 +99,9 @@ named-stages _ y (faults g e h) q = cause-fixes {s = 1} (faults g e h)
 named-stages _ y (refuses n h) q = cause-fixes {s = 1} (refuses n h)
 
 small-cause : (x : Answer) (r p : Bool) (c : ℕ) → Agrees x r p c → Fixed x → r ≡ false → c < 16
-small-cause answer.Permitted r p c h f e = let z = h.2 in omega arith
-small-cause (answer.Fault g) r p c h f e = let z = h.2 in let y = f.0 in omega arith
-small-cause (answer.Refused n) r p c h f e = let z : true ≡ false = sym h ∙ e in clash (cc)
+small-cause (Ok u) r p c h f e = let z = h.2 in omega arith
+small-cause (Err (Faulted g)) r p c h f e = let z = h.2 in let y = f.0 in omega arith
+small-cause (Err (Refused n)) r p c h f e = let z : true ≡ false = sym h ∙ e in clash (cc)
 
 -- limits and forbidden bits that are too high: n is above m exactly where q is not 0
 above-clear : (n m q : ℕ) → (q ≡ 0 → n ≤ m) → (n ≤ m → q ≡ 0) → eqb q 0 ≡ not (ltb m n)
@@ -178,7 +178,7 @@ none-refused r (c ∷ l) h a e = let v = none_of_two (r c) (some_of r l) h in go
     go true p q v next = rw (eqb-true a c p) v
     go false p q v next = next q
 
-module _ (s : Setup) (f : Leaf) (ok : setup_check s.control ≡ check.Passes) where
+module _ (s : Setup) (f : Leaf) (ok : setup_check s.control ≡ (Ok tt)) where
   abbrev w : Word
   w = stages_word s (stage1_of f.stage1) (stage2_of f.stage2) (limits_of f.limits)
 
@@ -196,7 +196,7 @@ module _ (s : Setup) (f : Leaf) (ok : setup_check s.control ≡ check.Passes) wh
   at-access n h = rw (ok, h) (go (over f))
     where
       go : (o : Bool)
-          → Judged (after_rights (follow (answer_of (check_if o 5)) (leaf_answer s f (access_at n)))
+          → Judged (after_rights (follow (answer_of (check_if o LeafBits)) (leaf_answer s f (access_at n)))
           (combined (combined_if (check_of s (stage1_of f.stage1) (stage2_of f.stage2)) (memory_of s (stage1_of f.stage1) (stage2_of f.stage2) (fetches n)))))
           (o || ((refused_codes w || w.meets (access_at n)) || (w.right (access_at n) && not known))) (w.right (access_at n)) (w.cause (access_at n))
       go true = refl
@@ -325,19 +325,19 @@ module _ (s : Setup) (f : Leaf) (ok : setup_check s.control ≡ check.Passes) wh
   causes-by true = causes-two
   causes-by false = causes-one
 
-  pub word-clear : eqb (mark_of found f) 0 ≡ true → (leaf_rights s f ≡ Rights (rights_in found)) × ((a : ℕ) → a < 6 → cause_in found a ≡ cause_at s f a)
+  pub word-clear : eqb (mark_of found f) 0 ≡ true → (leaf_rights s f ≡ Ok (rights_in found)) × ((a : ℕ) → a < 6 → cause_in found a ≡ cause_at s f a)
   unfolding leaf_word leaf_rights cause_at
   word-clear = go s.control.two refl
     where
       go : (two : Bool) → s.control.two ≡ two → eqb (mark_of (number_of (whole two)) f) 0 ≡ true
-          → (gather (judged s f) (judged_accesses two) ≡ Rights (rights_in (number_of (whole two)))) × ((a : ℕ) → a < 6 → cause_in (number_of (whole two)) a ≡ (judgement_values (judged s f a)).cause)
+          → (gather (judged s f) (judged_accesses two) ≡ Ok (rights_in (number_of (whole two)))) × ((a : ℕ) → a < 6 → cause_in (number_of (whole two)) a ≡ (judgement_values (judged s f a)).cause)
       go two e h =
           let x = unmarked (seen (whole two) || over f) (mark_of (number_of (whole two)) f) true (mark-is (whole two) f) h in
           (rw (rights-in (whole two) (none_seen (seen (whole two)) (over f) x)) (rw x at (leaf-gathers two e)), causes-by two e (refused-by two ∙ x))
 
-  pub word-refused : eqb (mark_of found f) 0 ≡ false → (k : ℕ) × (leaf_rights s f ≡ Refused k)
+  pub word-refused : eqb (mark_of found f) 0 ≡ false → (k : Refusal) × (leaf_rights s f ≡ Err k)
   unfolding leaf_word leaf_rights
   word-refused = go s.control.two refl
     where
-      go : (two : Bool) → s.control.two ≡ two → eqb (mark_of (number_of (whole two)) f) 0 ≡ false → (k : ℕ) × (gather (judged s f) (judged_accesses two) ≡ Refused k)
+      go : (two : Bool) → s.control.two ≡ two → eqb (mark_of (number_of (whole two)) f) 0 ≡ false → (k : Refusal) × (gather (judged s f) (judged_accesses two) ≡ Err k)
       go two e h = rw (unmarked (seen (whole two) || over f) (mark_of (number_of (whole two)) f) false (mark-is (whole two) f) h) at (leaf-gathers two e)

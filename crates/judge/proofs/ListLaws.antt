@@ -13,26 +13,24 @@ use Rattle.records.proofs.Cases.{clash, both_hold}
 use Rattle.records.specs.Bytes.{over}
 use Rattle.records.specs.Leaf.{leaf_at, leaf_count}
 use Rattle.records.specs.Setup.{read_setup}
-use Rattle.records.specs.declared.check.Check.TheVariants.{Passes}
 use Rattle.records.specs.declared.setup.Setup.{Setup}
-use Rattle.records.specs.declared.setup.SetupRead.{SetupRead}
 use Rattle.rights.specs.Checks.{setup_check}
 use Rattle.judge.specs.Demands.{ListDemands}
 use Rattle.judge.specs.LeafRights.{leaf_rights}
 use Rattle.judge.specs.List.{Walk, bytes, refused, walk, cause_at, causes_of, ListResult, finish, leaves_of, list_read, list_of}
 use Rattle.judge.specs.Mirror.Walked.{listed_of}
 use Rattle.judge.specs.Mirror.Words.{rights_in, cause_in, word_at, mark_at, clear, Found}
-use Rattle.judge.specs.declared.answers.LeafRights.{LeafRights}
-use Rattle.judge.specs.declared.answers.LeafRights.TheVariants.{Rights, Refused}
-use Rattle.judge.specs.declared.answers.Listed.{Listed}
-use Rattle.judge.specs.declared.answers.Listed.TheVariants as listed
 use Rattle.judge.proofs.Bits.{walked}
 use Rattle.judge.proofs.CauseBytes.{length-causes, at_byte}
 use Rattle.judge.proofs.LeafWords.{word-clear, word-refused}
 use Rattle.judge.proofs.ListMet.{list-met}
+use Rattle.std.specs.Prelude.{Result, Ok, Err}
+use Rattle.records.specs.declared.refusal.Refusal.{Refusal}
+use Rattle.judge.specs.Answers.{LeafRights}
+use Rattle.judge.specs.Answers.{Listed}
 
 -- the list's answer by what was read of the setup
-pub reads_as : (b ls o c : List ℕ) (x : SetupRead) → read_setup b ≡ x → list_of b ls o c ≡ list_read x ls o c
+pub reads_as : (b ls o c : List ℕ) (x : (Result Setup Refusal)) → read_setup b ≡ x → list_of b ls o c ≡ list_read x ls o c
 unfolding list_of
 reads_as b ls o c x e = rw e
 
@@ -41,26 +39,18 @@ pub met : (b ls o c : List ℕ) (r : Listed) (p q : List ℕ) → r ≡ (list_of
     → (r ≡ (list_of b ls o c).answer) × ((p ≡ (list_of b ls o c).out) × ((q ≡ (list_of b ls o c).causes) × ListDemands b ls o c r p q))
 met b ls o c r p q e f g = (e, (f, (g, list-met b ls o c r p q (e, f, g))))
 
--- the same where the list's result is known
-pub result : (b ls o c : List ℕ) (x : ListResult) → list_of b ls o c ≡ x
-    → (x.answer ≡ (list_of b ls o c).answer)
-    × ((x.out ≡ (list_of b ls o c).out) × ((x.causes ≡ (list_of b ls o c).causes) × ListDemands b ls o c x.answer x.out x.causes))
-result b ls o c x e =
-    met b ls o c x.answer x.out x.causes (ap (λ (y : ListResult). y.answer) (sym e)) (ap (λ (y : ListResult). y.out) (sym e))
-    (ap (λ (y : ListResult). y.causes) (sym e))
-
 -- rights that are in place are those of a walk
-walk-part : (f : ℕ → LeafRights) (v : List ℕ) (m i : ℕ) → i + m ≤ length v → ((j : ℕ) → j < i + m → f j ≡ Rights (get_or v j 0)) → walk f i m ≡ bytes (take m (drop i v))
+walk-part : (f : ℕ → LeafRights) (v : List ℕ) (m i : ℕ) → i + m ≤ length v → ((j : ℕ) → j < i + m → f j ≡ Ok (get_or v j 0)) → walk f i m ≡ bytes (take m (drop i v))
 walk-part f v zero i h e = refl
 walk-part f v (suc m) i h e =
     let more = walk-part f v m (suc i) (omega arith) (λ j g. e j (omega arith)) in
     rw (e i (omega arith), more, drop-cons v i 0 (omega arith))
 
 -- a leaf that is refused refuses the walk
-walk_refused : (f : ℕ → LeafRights) (n j k : ℕ) → j < n → f j ≡ Refused k → (x : ℕ) × (i : ℕ) × (walk f 0 n ≡ refused x i)
+walk_refused : (f : ℕ → LeafRights) (n j : ℕ) (k : Refusal) → j < n → f j ≡ Err k → (x : Refusal) × (i : ℕ) × (walk f 0 n ≡ refused x i)
 walk_refused f n j k h e = go (walk f 0 n) refl
   where
-    go : (w : Walk) → walk f 0 n ≡ w → (x : ℕ) × (i : ℕ) × (walk f 0 n ≡ refused x i)
+    go : (w : Walk) → walk f 0 n ≡ w → (x : Refusal) × (i : ℕ) × (walk f 0 n ≡ refused x i)
     go (refused x i) q = (x, i, q)
     go (bytes b) q = let z = sym (rw zero-add at ((walked f n 0 b q).1 j h)) ∙ e in clash (cc)
 
@@ -82,35 +72,35 @@ one-marked s ls (suc n) h = go (clear s ls n) (eqb (mark_at s ls n) 0) refl refl
     go false y p q e next = let z = next p in (z.0, (let g = z.1 in omega arith), z.2)
     go true y p q e next = (n, omega arith, q ∙ e)
 
-leaf-clear : (s : Setup) (ls : List ℕ) → setup_check s.control ≡ Passes → (j : ℕ) → eqb (mark_at s ls j) 0 ≡ true
-    → (leaf_rights s (leaf_at ls j) ≡ Rights (rights_in (word_at s ls j))) × ((a : ℕ) → a < 6 → cause_in (word_at s ls j) a ≡ cause_at s (leaf_at ls j) a)
+leaf-clear : (s : Setup) (ls : List ℕ) → setup_check s.control ≡ (Ok tt) → (j : ℕ) → eqb (mark_at s ls j) 0 ≡ true
+    → (leaf_rights s (leaf_at ls j) ≡ Ok (rights_in (word_at s ls j))) × ((a : ℕ) → a < 6 → cause_in (word_at s ls j) a ≡ cause_at s (leaf_at ls j) a)
 unfolding mark_at word_at
 leaf-clear s ls ok j e = word-clear s (leaf_at ls j) ok e
 
-leaf-refused : (s : Setup) (ls : List ℕ) → setup_check s.control ≡ Passes → (j : ℕ) → eqb (mark_at s ls j) 0 ≡ false → (k : ℕ) × (leaf_rights s (leaf_at ls j) ≡ Refused k)
+leaf-refused : (s : Setup) (ls : List ℕ) → setup_check s.control ≡ (Ok tt) → (j : ℕ) → eqb (mark_at s ls j) 0 ≡ false → (k : Refusal) × (leaf_rights s (leaf_at ls j) ≡ Err k)
 unfolding mark_at word_at
 leaf-refused s ls ok j e = word-refused s (leaf_at ls j) ok e
 
-module _ (s : Setup) (ls o c : List ℕ) (ok : setup_check s.control ≡ Passes) where
+module _ (s : Setup) (ls o c : List ℕ) (ok : setup_check s.control ≡ (Ok tt)) where
   abbrev n : ℕ
   n = leaf_count ls
 
   -- THE LEAVES IN ORDER: no leaf is marked
   pub clear-list : (v x : List ℕ) → n ≤ length v → 6 * n ≤ length x → clear s ls n ≡ true → Found s ls n v x
-      → leaves_of s ls o c ≡ record { answer = listed.Done n; out = over (take n v) o; causes = over (take (6 * n) x) c }
+      → leaves_of s ls o c ≡ record { answer = Ok n; out = over (take n v) o; causes = over (take (6 * n) x) c }
   unfolding leaves_of
   clear-list v x h g e f =
       ap₂ (λ (y : Walk) (z : List ℕ). finish y z n o c) (walk-part (λ (i : ℕ). leaf_rights s (leaf_at ls i)) v n 0 (omega arith) (λ j k. rights-at j (omega arith))) causes-are
     where
-      at_leaf : (j : ℕ) → j < n → (leaf_rights s (leaf_at ls j) ≡ Rights (rights_in (word_at s ls j))) × ((a : ℕ) → a < 6 → cause_in (word_at s ls j) a ≡ cause_at s (leaf_at ls j) a)
+      at_leaf : (j : ℕ) → j < n → (leaf_rights s (leaf_at ls j) ≡ Ok (rights_in (word_at s ls j))) × ((a : ℕ) → a < 6 → cause_in (word_at s ls j) a ≡ cause_at s (leaf_at ls j) a)
       at_leaf j k = leaf-clear s ls ok j (all-clear s ls n e j k)
 
       byte_at : (j : ℕ) → j < 6 * n → get_or (causes_of s ls) j 0 ≡ get_or (take (6 * n) x) j 0
       byte_at j i =
           at_byte s ls (6 * n) 0 j i ∙ rw (zero-add j) (sym ((at_leaf (j / 6) (omega arith)).1 (j % 6) (omega arith)) ∙ sym (f.1 j i) ∙ sym (get_or-take (6 * n) x j 0 i))
 
-      rights-at : (j : ℕ) → j < n → leaf_rights s (leaf_at ls j) ≡ Rights (get_or v j 0)
-      rights-at j k = (at_leaf j k).0 ∙ ap Rights (sym (f.0 j k))
+      rights-at : (j : ℕ) → j < n → leaf_rights s (leaf_at ls j) ≡ Ok (get_or v j 0)
+      rights-at j k = (at_leaf j k).0 ∙ ap Ok (sym (f.0 j k))
 
       causes-are : causes_of s ls ≡ take (6 * n) x
       causes-are =

@@ -11,25 +11,26 @@ use lib.ListN.{length, get_or, drop, length-append, length-drop, get_or-append}
 use borrow.Author.Tests.{eq-eqb, ltb-true, ltb-false}
 use lib.Seq.{drop_at, ext_get_or, get_or-drop}
 use Rattle.records.proofs.Cases.{clash}
-use Rattle.records.proofs.CheckLaws.{both-pass, AllPass, FirstAt, same_first, Ways, refused-before, refused-at, none-refused, ways}
+use Rattle.records.proofs.CheckLaws.{both-pass, AllPass, FirstAt, same_first, Ways, refused-before, refused-at, none-refused, ways, same-refusal}
 use Rattle.records.proofs.SameBits.{same_bits}
 use Rattle.records.specs.Bits.{bit}
 use Rattle.records.specs.Bytes.{over}
 use Rattle.records.specs.Leaf.{leaf_slice, leaf_at, leaf_count}
 use Rattle.records.specs.Setup.{setup_of}
-use Rattle.records.specs.declared.check.Check.{Check}
-use Rattle.records.specs.declared.check.Check.TheVariants as check
 use Rattle.rights.specs.Checks.{leaf_check}
 use Rattle.judge.specs.Demands.{is_judged, first_refusal, NothingRefused, start_refusal, leaf_refusal, rights_bit, ListDemands}
 use Rattle.judge.specs.Answers.{judgement_values}
 use Rattle.judge.specs.Judge.{judge_of}
 use Rattle.judge.specs.List.{cause_at, causes_of, ListResult, refuse, list_of}
-use Rattle.judge.specs.declared.answers.Listed.{Listed}
-use Rattle.judge.specs.declared.answers.Listed.TheVariants as listed
 use Rattle.judge.proofs.CauseBytes.{length-causes, at_byte}
 use Rattle.judge.proofs.Demands.{missing, judge-met}
 use Rattle.judge.proofs.Steps.{judge-read, long, slice-length}
 use Rattle.judge.proofs.ListDemands.{judged-passes, list-by, start-passes, stopped, written, start-number, leaf-number-of}
+use Rattle.std.specs.Prelude.{Ok, Err}
+use Rattle.records.specs.Values.{on_leaf}
+use Rattle.judge.specs.Answers.{Listed}
+use Rattle.records.specs.Values.{Check}
+use Rattle.records.specs.declared.refusal.Refusal.{Refusal}
 
 -- two buffers with the same n bytes and the same later bytes
 same-buffer : (n : ℕ) (p q : List ℕ) → length p ≡ length q → ((i : ℕ) → i < n → get_or p i 0 ≡ get_or q i 0) → drop n p ≡ drop n q → p ≡ q
@@ -62,11 +63,11 @@ module _ (b ls o c : List ℕ) where
 
   -- where the list is refused: before its leaves or at its first refused leaf; or it is done
   data Case : ListResult → Type 0 where
-    before : (k : ℕ) → start_refusal b ls o c ≡ check.Refused k → Case (refuse k 0 o c)
-    at_leaf : (k i : ℕ) → start_refusal b ls o c ≡ check.Passes → FirstAt R (leaf_count ls) k i → Case (refuse k i o c)
-    done : (v : List ℕ) → start_refusal b ls o c ≡ check.Passes → AllPass R (leaf_count ls) → length v ≡ leaf_count ls
+    before : (k : Refusal) → start_refusal b ls o c ≡ Err k → Case (refuse k 0 o c)
+    at_leaf : (k : Refusal) (i : ℕ) → start_refusal b ls o c ≡ (Ok tt) → FirstAt R (leaf_count ls) k i → Case (refuse k i o c)
+    done : (v : List ℕ) → start_refusal b ls o c ≡ (Ok tt) → AllPass R (leaf_count ls) → length v ≡ leaf_count ls
         → ((i a : ℕ) → i < leaf_count ls → bit (get_or v i 0) a ≡ rights_bit (setup_of b) (leaf_at ls i) a)
-        → Case (record { answer = listed.Done (leaf_count ls); out = over v o; causes = over (causes_of (setup_of b) ls) c })
+        → Case (record { answer = Ok (leaf_count ls); out = over v o; causes = over (causes_of (setup_of b) ls) c })
 
   case : Case (list_of b ls o c)
   case = go (ways (start_refusal b ls o c) R (leaf_count ls))
@@ -77,7 +78,7 @@ module _ (b ls o c : List ℕ) where
       go (none-refused e h) = let w = written b ls o c e h in rw w.1 (done w.0 e h w.2 w.3)
 
   -- the cause of access a of leaf i is that of the judge's own answer
-  own-cause : start_refusal b ls o c ≡ check.Passes → (i a : ℕ) → i < leaf_count ls → a < 6
+  own-cause : start_refusal b ls o c ≡ (Ok tt) → (i a : ℕ) → i < leaf_count ls → a < 6
       → get_or (over (causes_of (setup_of b) ls) c) (6 * i + a) 0 ≡ (judgement_values (judge_of b (leaf_slice ls i) a)).cause
   unfolding cause_at
   own-cause e i a h k =
@@ -89,7 +90,7 @@ module _ (b ls o c : List ℕ) where
 
   met_by : (x : ListResult) → Case x → ListDemands b ls o c x.answer x.out x.causes
   met_by _ (before k e) = record {
-    numbers = λ m i h. let g : k ≡ m = cc in rw (← g) (start-number b ls o c k e);
+    numbers = λ m i h. let g : k ≡ m = (same-refusal h).0 in rw (← g) (start-number b ls o c k e);
     kept = λ m i h. (refl, refl);
     size = (refl, refl);
     before = λ m h. let g : k ≡ m = cc in rw g;
@@ -97,7 +98,7 @@ module _ (b ls o c : List ℕ) where
     done = λ h p. clash (cc);
   }
   met_by _ (at_leaf k i e h) = record {
-    numbers = λ m j q. let g : k ≡ m = cc in rw (← g) (leaf-number-of b ls o c k i h.refuses);
+    numbers = λ m j q. let g : k ≡ m = (same-refusal q).0 in rw (← g) (leaf-number-of b ls o c k i h.refuses);
     kept = λ m j q. (refl, refl);
     size = (refl, refl);
     before = λ m q. clash (cc);
@@ -130,7 +131,7 @@ module _ (b ls o c : List ℕ) where
   pub list-unique : (r t : Listed) (p q u v : List ℕ) → ListDemands b ls o c r p u → ListDemands b ls o c t q v → (r ≡ t) × (p ≡ q) × (u ≡ v)
   list-unique r t p q u v d e = go (ways (start_refusal b ls o c) R (leaf_count ls))
     where
-      refused : (k i : ℕ) → r ≡ listed.Refused k i → t ≡ listed.Refused k i → (r ≡ t) × (p ≡ q) × (u ≡ v)
+      refused : (k : Refusal) (i : ℕ) → r ≡ (Err (on_leaf k i)) → t ≡ (Err (on_leaf k i)) → (r ≡ t) × (p ≡ q) × (u ≡ v)
       refused k i x y =
           let g = d.kept k i x in
           let h = e.kept k i y in
@@ -152,7 +153,7 @@ module _ (b ls o c : List ℕ) where
           )
 
   -- a judged access of a leaf that is not refused
-  nothing-refused : start_refusal b ls o c ≡ check.Passes → (i a : ℕ) → i < leaf_count ls → R i ≡ check.Passes
+  nothing-refused : start_refusal b ls o c ≡ (Ok tt) → (i a : ℕ) → i < leaf_count ls → R i ≡ (Ok tt)
       → is_judged (setup_of b).control.two a ≡ true → NothingRefused b (leaf_slice ls i) a
   unfolding first_refusal leaf_refusal
   nothing-refused e i a l h z =
@@ -167,7 +168,7 @@ module _ (b ls o c : List ℕ) where
       )
 
   -- of a done list: bit a of byte i of the rights is on exactly where access a of leaf i is judged and byte 6·i + a of the causes is 0
-  pub right-or-cause : (r : Listed) (p q : List ℕ) → ListDemands b ls o c r p q → start_refusal b ls o c ≡ check.Passes → AllPass R (leaf_count ls)
+  pub right-or-cause : (r : Listed) (p q : List ℕ) → ListDemands b ls o c r p q → start_refusal b ls o c ≡ (Ok tt) → AllPass R (leaf_count ls)
       → (i a : ℕ) → i < leaf_count ls → a < 6 → bit (get_or p i 0) a ≡ (is_judged (setup_of b).control.two a && eqb (get_or q (6 * i + a) 0) 0)
   right-or-cause r p q d e h i a l k = (d.done e h).1 i a l ∙ go (is_judged (setup_of b).control.two a) refl
     where

@@ -1,10 +1,10 @@
 -- Document 01, 'Numbers to check against': the starred cases a to l, as one table, with the causes of request A1. Control 7 unless said, MAIR
 -- 4FAA0444FF00, limits 0. Assumes nothing.
-use Rattle.std.specs.Prelude.{ℕ, zero, suc, ◌/◌, ◌%◌, List, [], ◌∷◌, ◌++◌, replicate}
+use Rattle.std.specs.Prelude.{ℕ, zero, suc, ◌/◌, ◌%◌, List, [], ◌∷◌, ◌++◌, replicate, Ok, Err}
 use Rattle.rights.specs.declared.answers.Kind.{Kind}
 use Rattle.rights.specs.declared.answers.Kind.TheVariants.{Translation, AccessFlag, Permission}
-use Rattle.judge.specs.declared.answers.Judgement.{Judgement}
-use Rattle.judge.specs.declared.answers.Judgement.TheVariants.{Allowed, Fault}
+use Rattle.rights.specs.declared.answers.Stop.TheVariants.{Faulted}
+use Rattle.judge.specs.Answers.{Judgement}
 
 -- the k little-endian bytes of a number
 abbrev pub bytes_of : ℕ → ℕ → List ℕ
@@ -33,11 +33,11 @@ abbrev pub row : ℕ → ℕ → ℕ → ℕ → ℕ → Judgement → List ℕ 
 row c t one two n j r = record { control = c; limits = t; stage1 = one; stage2 = two; access = n; answer = j; rights = r }
 
 abbrev pub allowed : ℕ → ℕ → Judgement
-allowed b sh = Allowed (record { byte = b; sh = sh })
+allowed b sh = Ok (record { byte = b; sh = sh })
 
 -- a fault with the cause that request A1 gives it
 abbrev pub fault : ℕ → Kind → ℕ → Judgement
-fault s k c = Fault (record { stage = s; kind = k; cause = c })
+fault s k c = Err (Faulted (record { stage = s; kind = k; cause = c }))
 
 -- control 7, and with FWB
 abbrev pub plain : ℕ

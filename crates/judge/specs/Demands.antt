@@ -1,23 +1,19 @@
 -- The user's demands 1 and 2, with request A1, as statements about the judge and the list on the paper's conditions, never on the program's own answer,
 -- but for the causes of a list: these are by the request those of the judge's own answers. The judge and the list meet them: `judge-met` of proofs/Demands,
 -- `list-met` of proofs/ListMet. They leave one outcome for every input: `judge-unique` and `list-unique`, there too. Assumes nothing.
-use Rattle.std.specs.Prelude.{ℕ, ◌+◌, ◌*◌, ◌<◌, ◌≤◌, ◌≡◌, Bool, cond, not, ◌&&◌, List, ◌⊎◌, leb, length, get_or, drop}
+use Rattle.std.specs.Prelude.{ℕ, ◌+◌, ◌*◌, ◌<◌, ◌≤◌, ◌≡◌, Bool, cond, not, ◌&&◌, List, ◌⊎◌, leb, length, get_or, drop, Ok, Err}
 use Rattle.records.specs.Access.{access_at}
 use Rattle.records.specs.Bits.{bit}
 use Rattle.records.specs.Descriptor.{stage1_of, stage2_of, limits_of}
 use Rattle.records.specs.Leaf.{leaf_of, leaf_slice, leaf_at, leaf_count}
 use Rattle.records.specs.Setup.{setup_of}
 use Rattle.records.specs.Values.{Values, check_if, length_check, check_then, first_of}
-use Rattle.records.specs.declared.check.Check.{Check}
-use Rattle.records.specs.declared.check.Check.TheVariants as check
 use Rattle.records.specs.declared.leaf.Leaf.{Leaf}
 use Rattle.records.specs.declared.setup.Setup.{Setup}
 use Rattle.rights.specs.Answers.{permitted, refusal_of, where_reached, cause_of}
 use Rattle.rights.specs.Causes.{CauseFixes}
 use Rattle.rights.specs.Checks.{setup_check, leaf_check}
 use Rattle.rights.specs.Order.{stage1_if, stage2_if}
-use Rattle.rights.specs.declared.answers.Answer.{Answer}
-use Rattle.rights.specs.declared.answers.Answer.TheVariants as answer
 use Rattle.rights.specs.declared.answers.Fault.{Fault}
 use Rattle.attributes.specs.Order.{check_of, memory_of}
 use Rattle.attributes.specs.declared.Memory.{Memory}
@@ -25,10 +21,14 @@ use Rattle.judge.specs.Answers.{judgement_values}
 use Rattle.judge.specs.Judge.{fetches, judge_of}
 use Rattle.judge.specs.LeafRights.{judged_accesses}
 use Rattle.judge.specs.List.{list_check}
-use Rattle.judge.specs.declared.answers.Judgement.{Judgement}
-use Rattle.judge.specs.declared.answers.Judgement.TheVariants as judgement
-use Rattle.judge.specs.declared.answers.Listed.{Listed}
-use Rattle.judge.specs.declared.answers.Listed.TheVariants as listed
+use Rattle.records.specs.declared.refusal.Refusal.TheVariants.{UnknownAccess}
+use Rattle.rights.specs.declared.answers.Stop.TheVariants.{Faulted, Refused}
+use Rattle.records.specs.Values.{on_leaf, refusal_number}
+use Rattle.rights.specs.Answers.{Answer}
+use Rattle.judge.specs.Answers.{Judgement}
+use Rattle.judge.specs.Answers.{Listed}
+use Rattle.records.specs.Values.{Check}
+use Rattle.records.specs.declared.refusal.Refusal.{Refusal}
 
 -- Demand 1: every setup, leaf and access gets one answer. It is allowed,
 abbrev pub AllowedAnswer : Values → Type 0
@@ -75,20 +75,20 @@ first_refusal b c n =
     check_then (length_check b 52)
     (check_then (length_check c 18)
     (check_then (setup_check (setup_of b).control)
-    (check_then (check_if (not (is_judged (setup_of b).control.two n)) 4)
+    (check_then (check_if (not (is_judged (setup_of b).control.two n)) UnknownAccess)
     (check_then (leaf_check (leaf_of c)) (access_refusal (setup_of b) (leaf_of c) n)))))
 
 -- nothing is refused: none of 13, 1 to 5 applies, no stage that the access reaches refuses and, where it reaches them, none of 8, 8, 9 applies
 abbrev pub NothingRefused : List ℕ → List ℕ → ℕ → Type 0
-NothingRefused b c n = first_refusal b c n ≡ check.Passes
+NothingRefused b c n = first_refusal b c n ≡ Ok tt
 
 -- each stage that is on permits the access; and g is the first failing stage's fault
 abbrev pub Permits : Setup → Leaf → ℕ → Type 0
-Permits s f n = (stage1 s f n ≡ answer.Permitted) × (stage2 s f n ≡ answer.Permitted)
+Permits s f n = (stage1 s f n ≡ (Ok tt)) × (stage2 s f n ≡ (Ok tt))
 
 abbrev pub FirstFault : Setup → Leaf → ℕ → Fault → Type 0
 FirstFault s f n g =
-    (stage1 s f n ≡ answer.Fault g) ⊎ ((stage1 s f n ≡ answer.Permitted) × (stage2 s f n ≡ answer.Fault g))
+    (stage1 s f n ≡ (Err (Faulted g))) ⊎ ((stage1 s f n ≡ (Ok tt)) × (stage2 s f n ≡ (Err (Faulted g))))
 
 -- request A1: what took the access away. Stage 1's cause comes before stage 2's; 0 where both permit it
 abbrev pub first_cause : Setup → Leaf → ℕ → ℕ
@@ -99,12 +99,12 @@ first_cause s f n = cond (permitted (stage1 s f n)) (cause_of (stage2 s f n)) (c
 -- number of the first that applies.
 pub record Demand2 (b c : List ℕ) (n : ℕ) (j : Judgement) : Type 0 where
   pub allowed : NothingRefused b c n → Permits (setup_of b) (leaf_of c) n
-      → j ≡ judgement.Allowed (memory_of (setup_of b) (stage1_of (leaf_of c).stage1) (stage2_of (leaf_of c).stage2) (fetches n))
-  pub only_allowed : NothingRefused b c n → (m : Memory) → j ≡ judgement.Allowed m → Permits (setup_of b) (leaf_of c) n
-  pub faulted : NothingRefused b c n → (g : Fault) → FirstFault (setup_of b) (leaf_of c) n g → j ≡ judgement.Fault g
+      → j ≡ Ok (memory_of (setup_of b) (stage1_of (leaf_of c).stage1) (stage2_of (leaf_of c).stage2) (fetches n))
+  pub only_allowed : NothingRefused b c n → (m : Memory) → j ≡ Ok m → Permits (setup_of b) (leaf_of c) n
+  pub faulted : NothingRefused b c n → (g : Fault) → FirstFault (setup_of b) (leaf_of c) n g → j ≡ Err (Faulted g)
   pub caused : NothingRefused b c n → (judgement_values j).cause ≡ first_cause (setup_of b) (leaf_of c) n
-  pub refused : (k : ℕ) → first_refusal b c n ≡ check.Refused k → j ≡ judgement.Refused k
-  pub only_refused : (k : ℕ) → j ≡ judgement.Refused k → first_refusal b c n ≡ check.Refused k
+  pub refused : (k : Refusal) → first_refusal b c n ≡ Err k → j ≡ Err (Refused k)
+  pub only_refused : (k : Refusal) → j ≡ (Err (Refused k)) → first_refusal b c n ≡ Err k
 
 -- what the user demands of the answer j to access n
 pub record JudgeDemands (b c : List ℕ) (n : ℕ) (j : Judgement) : Type 0 where
@@ -133,15 +133,15 @@ ListNumber k = ((1 ≤ k) × (k ≤ 3)) ⊎ (((5 ≤ k) × (k ≤ 9)) ⊎ ((k �
 -- of the judge's own answer to access a of leaf i; and later bytes keep their values. Otherwise the number and leaf are those of the first refusal in the
 -- paper's order, and no lent byte changes.
 pub record ListDemands (b ls o c : List ℕ) (r : Listed) (p q : List ℕ) : Type 0 where
-  pub numbers : (k i : ℕ) → r ≡ listed.Refused k i → ListNumber k
-  pub kept : (k i : ℕ) → r ≡ listed.Refused k i → (p ≡ o) × (q ≡ c)
+  pub numbers : (k : Refusal) (i : ℕ) → r ≡ Err (on_leaf k i) → ListNumber (refusal_number k)
+  pub kept : (k : Refusal) (i : ℕ) → r ≡ Err (on_leaf k i) → (p ≡ o) × (q ≡ c)
   pub size : (length p ≡ length o) × (length q ≡ length c)
-  pub before : (k : ℕ) → start_refusal b ls o c ≡ check.Refused k → r ≡ listed.Refused k 0
-  pub at_leaf : start_refusal b ls o c ≡ check.Passes → (k i : ℕ) → i < leaf_count ls
-      → ((j : ℕ) → j < i → leaf_refusal (setup_of b) (leaf_at ls j) ≡ check.Passes) → leaf_refusal (setup_of b) (leaf_at ls i) ≡ check.Refused k
-      → r ≡ listed.Refused k i
-  pub done : start_refusal b ls o c ≡ check.Passes → ((j : ℕ) → j < leaf_count ls → leaf_refusal (setup_of b) (leaf_at ls j) ≡ check.Passes)
-      → (r ≡ listed.Done (leaf_count ls))
+  pub before : (k : Refusal) → start_refusal b ls o c ≡ Err k → r ≡ Err (on_leaf k 0)
+  pub at_leaf : start_refusal b ls o c ≡ (Ok tt) → (k : Refusal) (i : ℕ) → i < leaf_count ls
+      → ((j : ℕ) → j < i → leaf_refusal (setup_of b) (leaf_at ls j) ≡ (Ok tt)) → leaf_refusal (setup_of b) (leaf_at ls i) ≡ Err k
+      → r ≡ Err (on_leaf k i)
+  pub done : start_refusal b ls o c ≡ (Ok tt) → ((j : ℕ) → j < leaf_count ls → leaf_refusal (setup_of b) (leaf_at ls j) ≡ (Ok tt))
+      → (r ≡ Ok (leaf_count ls))
       × ((i a : ℕ) → i < leaf_count ls → bit (get_or p i 0) a ≡ rights_bit (setup_of b) (leaf_at ls i) a)
       × (drop (leaf_count ls) p ≡ drop (leaf_count ls) o)
       × ((i a : ℕ) → i < leaf_count ls → a < 6 → get_or q (6 * i + a) 0 ≡ (judgement_values (judge_of b (leaf_slice ls i) a)).cause)

@@ -1,28 +1,27 @@
 -- Document 01, 'A leaf's **rights**'. Assumes nothing.
-use Rattle.std.specs.Prelude.{ℕ, ◌+◌, ◌^◌, List, [], ◌∷◌, Bool, cond}
+use Rattle.std.specs.Prelude.{ℕ, ◌+◌, ◌^◌, List, [], ◌∷◌, Bool, cond, Ok, Err}
 use Rattle.records.specs.declared.leaf.Leaf.{Leaf}
 use Rattle.records.specs.declared.setup.Setup.{Setup}
 use Rattle.judge.specs.Judge.{judged}
-use Rattle.judge.specs.declared.answers.Judgement.{Judgement}
-use Rattle.judge.specs.declared.answers.Judgement.TheVariants as judgement
-use Rattle.judge.specs.declared.answers.LeafRights.{LeafRights}
-use Rattle.judge.specs.declared.answers.LeafRights.TheVariants.{Rights, Refused}
+use Rattle.rights.specs.declared.answers.Stop.TheVariants.{Faulted, Refused}
+use Rattle.judge.specs.Answers.{LeafRights}
+use Rattle.judge.specs.Answers.{Judgement}
 
 -- bit a of the rights, and the accesses after it
 abbrev pub weigh : ℕ → LeafRights → LeafRights
-weigh w (Rights b) = Rights (w + b)
-weigh w (Refused n) = Refused n
+weigh w (Ok b) = Ok (w + b)
+weigh w (Err n) = Err n
 
 -- an access as a bit, before the later ones: on where the order reaches the end of the attribute steps; a fault gives 0; a refusal
 -- refuses the leaf
 abbrev pub add : Judgement → ℕ → LeafRights → LeafRights
-add (judgement.Allowed m) w r = weigh w r
-add (judgement.Fault f) w r = r
-add (judgement.Refused n) w r = Refused n
+add (Ok m) w r = weigh w r
+add (Err (Faulted f)) w r = r
+add (Err (Refused n)) w r = Err n
 
 -- the accesses of these numbers, lowest first
 abbrev pub gather : (ℕ → Judgement) → List ℕ → LeafRights
-gather j [] = Rights 0
+gather j [] = Ok 0
 gather j (a ∷ more) = add (j a) (2 ^ a) (gather j more)
 
 -- with one level only 0 to 2 are judged

@@ -1,35 +1,34 @@
 -- Document 01, 'A list checks 1, 2, 3, 11, then its leaves in order, and writes one rights byte per leaf; later output bytes keep their
 -- values'; and request A1: 'six bytes per leaf in access order in a second lent buffer (11 if short)'. Assumes nothing.
-use Rattle.std.specs.Prelude.{ℕ, zero, suc, ◌*◌, ◌/◌, ◌%◌, List, [], ◌∷◌, Bool, not, ◌&&◌, leb, length}
+use Rattle.std.specs.Prelude.{ℕ, zero, suc, ◌*◌, ◌/◌, ◌%◌, List, [], ◌∷◌, Bool, not, ◌&&◌, leb, length, Result, Ok, Err}
 use Rattle.records.specs.Bytes.{over}
 use Rattle.records.specs.Leaf.{leaf_at, leaf_count, whole_leaves}
 use Rattle.records.specs.Setup.{read_setup}
 use Rattle.records.specs.Values.{check_if, check_then, if_passes}
-use Rattle.records.specs.declared.check.Check.{Check}
 use Rattle.records.specs.declared.leaf.Leaf.{Leaf}
 use Rattle.records.specs.declared.setup.Control.{Control}
 use Rattle.records.specs.declared.setup.Setup.{Setup}
-use Rattle.records.specs.declared.setup.SetupRead.{SetupRead}
-use Rattle.records.specs.declared.setup.SetupRead.TheVariants as setup
 use Rattle.rights.specs.Checks.{setup_check}
 use Rattle.judge.specs.Answers.{judgement_values}
 use Rattle.judge.specs.Judge.{judged}
 use Rattle.judge.specs.LeafRights.{leaf_rights}
-use Rattle.judge.specs.declared.answers.LeafRights.{LeafRights}
-use Rattle.judge.specs.declared.answers.LeafRights.TheVariants as leaf
-use Rattle.judge.specs.declared.answers.Listed.{Listed}
-use Rattle.judge.specs.declared.answers.Listed.TheVariants.{Done, Refused}
+use Rattle.records.specs.declared.refusal.Refusal.{Refusal}
+use Rattle.records.specs.declared.refusal.Refusal.TheVariants.{ListLength}
+use Rattle.records.specs.Values.{on_leaf}
+use Rattle.judge.specs.Answers.{LeafRights}
+use Rattle.judge.specs.Answers.{Listed}
+use Rattle.records.specs.Values.{Check}
 
 -- the rights bytes of leaves, or the first refusal with its leaf's index
 pub data Walk : Type 0 where
   bytes : List ℕ → Walk
-  refused : ℕ → ℕ → Walk
+  refused : Refusal → ℕ → Walk
 
 -- leaf i before the later ones
 abbrev pub step : LeafRights → ℕ → Walk → Walk
-step (leaf.Rights b) i (bytes more) = bytes (b ∷ more)
-step (leaf.Rights b) i (refused n k) = refused n k
-step (leaf.Refused n) i w = refused n i
+step (Ok b) i (bytes more) = bytes (b ∷ more)
+step (Ok b) i (refused n k) = refused n k
+step (Err n) i w = refused n i
 
 -- m leaves from leaf i on, in order
 abbrev pub walk : (ℕ → LeafRights) → ℕ → ℕ → Walk
@@ -56,12 +55,12 @@ pub record ListResult : Type 0 where
   pub causes : List ℕ
 
 -- a refusal changes no lent byte
-abbrev pub refuse : ℕ → ℕ → List ℕ → List ℕ → ListResult
-refuse n i o c = record { answer = Refused n i; out = o; causes = c }
+abbrev pub refuse : Refusal → ℕ → List ℕ → List ℕ → ListResult
+refuse n i o c = record { answer = Err (on_leaf n i); out = o; causes = c }
 
 -- rights and causes of n leaves
 abbrev pub finish : Walk → List ℕ → ℕ → List ℕ → List ℕ → ListResult
-finish (bytes b) x n o c = record { answer = Done n; out = over b o; causes = over x c }
+finish (bytes b) x n o c = record { answer = Ok n; out = over b o; causes = over x c }
 finish (refused k i) x n o c = refuse k i o c
 
 -- 11: list not a multiple of 18 bytes, over 2,048 leaves, or output shorter than the leaf count; or causes shorter than six times the leaf count
@@ -70,17 +69,17 @@ fits len room causes = whole_leaves len && (leb (len / 18) room && leb (6 * (len
 
 -- 1, 2, 3, then 11, for a list of `len` bytes, an output of `room` bytes and a buffer of `causes` bytes
 unfoldable pub list_check : Control → ℕ → ℕ → ℕ → Check
-list_check c len room causes = check_then (setup_check c) (check_if (not (fits len room causes)) 11)
+list_check c len room causes = check_then (setup_check c) (check_if (not (fits len room causes)) ListLength)
 
 -- the leaves in order
 unfoldable pub leaves_of : Setup → List ℕ → List ℕ → List ℕ → ListResult
 leaves_of s ls o c = finish (walk (λ (i : ℕ). leaf_rights s (leaf_at ls i)) 0 (leaf_count ls)) (causes_of s ls) (leaf_count ls) o c
 
 -- 13 before all else, then 1, 2, 3, 11, then the leaves; a refusal before the leaves has leaf 0
-abbrev pub list_read : SetupRead → List ℕ → List ℕ → List ℕ → ListResult
-list_read (setup.Read s) ls o c =
-    if_passes (list_check s.control (length ls) (length o) (length c)) (λ (n : ℕ). refuse n 0 o c) (leaves_of s ls o c)
-list_read (setup.Refused k) ls o c = refuse k 0 o c
+abbrev pub list_read : (Result Setup Refusal) → List ℕ → List ℕ → List ℕ → ListResult
+list_read (Ok s) ls o c =
+    if_passes (list_check s.control (length ls) (length o) (length c)) (λ (n : Refusal). refuse n 0 o c) (leaves_of s ls o c)
+list_read (Err k) ls o c = refuse k 0 o c
 
 unfoldable pub list_of : List ℕ → List ℕ → List ℕ → List ℕ → ListResult
 list_of s ls o c = list_read (read_setup s) ls o c

@@ -1,61 +1,41 @@
 // One access of a leaf.
-ghost use Rattle.std.specs.Prelude.{◌≡◌, false};
-ghost use Rattle.rights.specs.Answers.{permitted};
+ghost use Rattle.std.specs.Prelude.{◌≡◌};
 ghost use Rattle.judge.specs.Demands.{JudgeDemands};
-ghost use Rattle.judge.specs.Judge.{combined, after_rights, judged, judge_of};
+ghost use Rattle.judge.specs.Judge.{judged, judge_of};
 
-use crate::answers::Judgement;
-use attributes::Attributes;
-use records::leaf::{Leaf, LeafRead};
-use records::setup::{Setup, SetupRead};
-use rights::answers::Answer;
-
-// The fault or refusal of an access that is not permitted, whatever would follow.
-fn stopped(a: Answer) -> Judgement
-    requires { permitted a ≡ false }
-    ensures { (j : Judgement) → result ≡ after_rights a j }
-{
-    match a {
-        Answer::Fault(f) => Judgement::Fault(f),
-        Answer::Refused(n) => Judgement::Refused(n),
-        Answer::Permitted => Judgement::Refused(0), // never, by the `requires`
-    }
-}
-
-// The byte and SH, or the refusal of the attribute steps.
-fn combined(a: Attributes) -> Judgement
-    ensures { result ≡ combined a }
-{
-    match a {
-        Attributes::Combined(m) => Judgement::Allowed(m),
-        Attributes::Refused(n) => Judgement::Refused(n),
-    }
-}
+use attributes::Memory;
+use attributes::order::access_attributes;
+use records::descriptor::{read_stage1, read_stage2};
+use records::leaf::{Leaf, read_leaf};
+use records::setup::{Setup, read_setup};
+use rights::answers::Stop;
+use rights::order::judge_rights;
 
 // From 1 on: checks, stage 1, stage 2, then 8, 8, 9. Accesses 2 and 5 are fetches.
 #[tactic(auto, unfolding(crate::specs::Judge::judged))]
-pub(crate) fn judge_read(s: Setup, f: Leaf, n: u64) -> Judgement
+pub(crate) fn judge_read(s: Setup, f: Leaf, n: u64) -> Result<Memory, Stop>
     ensures { result ≡ judged s f n }
 {
-    let answer = rights::order::judge_rights(s, f, n);
-    let Answer::Permitted = answer else {
-        return stopped(answer);
-    };
-    let d = records::descriptor::read_stage1(f.stage1);
-    let e = records::descriptor::read_stage2(f.stage2);
-    combined(attributes::order::access_attributes(s, d, e, (n == 2) | (n == 5)))
+    judge_rights(s, f, n)?;
+    let d = read_stage1(f.stage1);
+    let e = read_stage2(f.stage2);
+    Ok(access_attributes(s, d, e, (n == 2) | (n == 5))?)
 }
 
-// The judgement of an access: 13 for lengths before all else, then 1 to 5, stage 1, stage 2, 8, 8, 9, the first that applies.
-pub fn judge_access(setup: &[u8], leaf: &[u8], access: u64) -> Judgement
+// 13 for lengths before all else, then 1 to 5, stage 1, stage 2, 8, 8, 9, the first that applies.
+#[tactic(auto, unfolding(crate::specs::Judge::judge_of))]
+fn judge_bytes(setup: &[u8], leaf: &[u8], access: u64) -> Result<Memory, Stop>
+    ensures { result ≡ judge_of setup.now leaf.now access }
+{
+    let s = read_setup(setup)?;
+    let f = read_leaf(leaf)?;
+    judge_read(s, f, access)
+}
+
+// The judgement of an access: its byte and SH where it is allowed.
+pub fn judge_access(setup: &[u8], leaf: &[u8], access: u64) -> Result<Memory, Stop>
     ensures answer { result ≡ judge_of setup.now leaf.now access }
     ensures demands { JudgeDemands setup.now leaf.now access result }
 {
-    let SetupRead::Read(s) = records::setup::read_setup(setup) else {
-        return Judgement::Refused(13);
-    };
-    let LeafRead::Read(f) = records::leaf::read_leaf(leaf) else {
-        return Judgement::Refused(13);
-    };
-    judge_read(s, f, access)
+    judge_bytes(setup, leaf, access)
 }

@@ -2,16 +2,16 @@
 // leaf is walked again by the judge's own function.
 ghost use Rattle.std.specs.Prelude.{◌≡◌, ◌+◌, ◌*◌, ◌≤◌, eqb, length};
 ghost use Rattle.records.specs.Leaf.{leaf_count};
-ghost use Rattle.records.specs.declared.check.Check.TheVariants.{Passes};
+ghost use Rattle.records.specs.Values.{passes};
 ghost use Rattle.rights.specs.Checks.{setup_check};
 ghost use Rattle.judge.specs.List.{leaves_of};
 ghost use Rattle.judge.specs.Mirror.Words.{clear, Found};
 
-use crate::answers::Listed;
 use crate::fill::fill;
 use crate::groups::long_list;
 use crate::walk::first_refusal;
 use attributes::known::memory_table;
+use records::refusal::LeafRefusal;
 use records::setup::Setup;
 use rights::words::tables::{base_words, slot_words, stage_words};
 
@@ -41,10 +41,10 @@ pub(crate) fn list_leaves(
     found: &mut [u8],
     out: &mut [u8],
     causes: &mut [u8],
-) -> Listed
+) -> Result<usize, LeafRefusal>
     requires buffers { (leaf_count leaves.now ≤ length rights.old) × (6 * leaf_count leaves.now + 2 ≤ length found.old) }
     requires room { (leaf_count leaves.now ≤ length out.old) × (6 * leaf_count leaves.now ≤ length causes.old) }
-    requires accepted { (leaf_count leaves.now ≤ 2048) × (setup_check s.control ≡ Passes) }
+    requires accepted { (leaf_count leaves.now ≤ 2048) × (setup_check s.control ≡ passes) }
     ensures answer { result ≡ (leaves_of s leaves.now out.old causes.old).answer }
     ensures out { out.new ≡ (leaves_of s leaves.now out.old causes.old).out }
     ensures causes { causes.new ≡ (leaves_of s leaves.now out.old causes.old).causes }
@@ -57,5 +57,5 @@ pub(crate) fn list_leaves(
     }
     out[..n].copy_from_slice(&rights[..n]);
     causes[..6 * n].copy_from_slice(&found[..6 * n]);
-    Listed::Done(n)
+    Ok(n)
 }

@@ -4,7 +4,6 @@
 #![tactic(auto)]
 
 pub mod access;
-pub mod answers;
 mod fill;
 mod groups;
 mod leaves;

@@ -10,6 +10,3 @@ use Rattle.judge.proofs.walk.first_refusal.Given as goal
 abbrev pub invariant-loop-i : goal.invariant-loop-i
 invariant-loop-i l =
     listed_from (λ (i : ℕ). leaf_rights l.s (leaf_at l.leaves i)) l.n l.i ≡ listed_of (walk (λ (i : ℕ). leaf_rights l.s (leaf_at l.leaves i)) 0 l.n) l.n
-
-abbrev pub decreases-loop-i : goal.decreases-loop-i
-decreases-loop-i l = l.n - l.i

@@ -10,6 +10,3 @@ invariant-loop-a l = record {
   end : length (judged_accesses l.s.control.two) ≡ l.end;
   rest : refusal_from l.s l.f l.a ≡ refusal_in (leaf_rights l.s l.f);
 }
-
-abbrev pub decreases-loop-a : goal.decreases-loop-a
-decreases-loop-a l = l.end - l.a
