@@ -10,12 +10,12 @@ use Rattle.records.specs.Bytes.{le64}
 use Rattle.records.specs.Setup.{words_of, setup_from, setup_of, read_setup}
 use Rattle.records.specs.declared.access.Level.{Level}
 use Rattle.records.specs.declared.access.Level.TheVariants.{Privileged, Unprivileged}
-use Rattle.records.specs.declared.setup.LevelRegisters.{LevelRegisters}
+use Rattle.records.specs.declared.setup.PerLevel.{PerLevel}
 use Rattle.records.specs.declared.setup.Setup.{Setup}
-use Rattle.records.specs.declared.setup.SetupRead.TheVariants.{Read}
 use Rattle.rights.specs.Promise.{put}
 use Rattle.judge.specs.Cases.{bytes_of}
 use Rattle.separation.specs.Separation.{with_por}
+use Rattle.std.specs.Prelude.{Ok}
 
 -- a list is its bytes, one by one
 spelled : (b : List ℕ) → b ≡ upto (length b) (λ (i : ℕ). get_or b i 0)
@@ -28,7 +28,7 @@ unfolding le64
 read_back r h = omega arith
 
 -- the setup of bytes whose PORs are these
-abbrev with-pors : (ℕ → ℕ) → LevelRegisters → Setup
+abbrev with-pors : (ℕ → ℕ) → PerLevel ℕ → Setup
 with-pors f p = let s = setup_of (upto 52 f) in record { control = s.control; mair = s.mair; mair2 = s.mair2; pir = s.pir; por = p }
 
 in_place : (f : ℕ → ℕ) (l : Level) (r : ℕ) → r < 2 ^ 64 → setup_of (with_por (upto 52 f) l r) ≡ put (setup_of (upto 52 f)) l r
@@ -43,11 +43,11 @@ same_length : (f : ℕ → ℕ) (l : Level) (r : ℕ) → length (with_por (upto
 same_length f Privileged r = refl
 same_length f Unprivileged r = refl
 
-pub put-read : (b : List ℕ) (l : Level) (r : ℕ) → length b ≡ 52 → r < 2 ^ 64 → read_setup (with_por b l r) ≡ Read (put (setup_of b) l r)
+pub put-read : (b : List ℕ) (l : Level) (r : ℕ) → length b ≡ 52 → r < 2 ^ 64 → read_setup (with_por b l r) ≡ Ok (put (setup_of b) l r)
 unfolding read_setup
 put-read b l r e h =
     let z : b ≡ upto 52 (λ (i : ℕ). get_or b i 0) = spelled b ∙ ap (λ (n : ℕ). upto n (λ (i : ℕ). get_or b i 0)) e in
     go (λ (i : ℕ). get_or b i 0) z
   where
-    go : (f : ℕ → ℕ) → b ≡ upto 52 f → read_setup (with_por b l r) ≡ Read (put (setup_of b) l r)
+    go : (f : ℕ → ℕ) → b ≡ upto 52 f → read_setup (with_por b l r) ≡ Ok (put (setup_of b) l r)
     go f z = rw (z, eq-eqb _ _ (same_length f l r), in_place f l r h)

@@ -18,29 +18,28 @@ use Rattle.records.specs.Setup.{setup_of, read_setup}
 use Rattle.records.specs.declared.access.Level.{Level}
 use Rattle.records.specs.declared.access.Level.TheVariants.{Privileged, Unprivileged}
 use Rattle.records.specs.declared.access.Right.{Right}
-use Rattle.records.specs.declared.check.Check.{Check}
 use Rattle.records.specs.declared.leaf.Leaf.{Leaf}
 use Rattle.records.specs.declared.setup.Setup.{Setup}
-use Rattle.records.specs.declared.setup.SetupRead.TheVariants as setup
 use Rattle.rights.proofs.OrderLaws.{stages-as}
 use Rattle.rights.specs.Answers.{permitted, follow}
 use Rattle.rights.specs.Order.{stages_answer, leaf_answer}
 use Rattle.rights.specs.Promise.{put}
 use Rattle.rights.specs.Stage1.{base_rights, base_cause, base_answer, stage1_answer}
-use Rattle.rights.specs.declared.answers.Answer.{Answer}
-use Rattle.rights.specs.declared.answers.Answer.TheVariants as answer
 use Rattle.judge.proofs.ListMet.{list-met}
 use Rattle.judge.specs.Demands.{stage1, stage2, is_judged, start_refusal, leaf_refusal, rights_bit, ListDemands}
 use Rattle.judge.specs.List.{list_of}
-use Rattle.judge.specs.declared.answers.Listed.TheVariants.{Done}
 use Rattle.planner.proofs.Consequences.{access-number}
 use Rattle.planner.proofs.Demands.{register-accepted}
 use Rattle.planner.proofs.Theorem.{demand3}
 use Rattle.planner.specs.Demands.{Accepted, Largest}
 use Rattle.planner.specs.Plan.{plan_of, both_of}
-use Rattle.planner.specs.declared.plan.Plan.TheVariants.{Register}
 use Rattle.separation.proofs.InPlace.{put-read}
 use Rattle.separation.specs.Separation.{with_por, Stopped, Separated, answer_at, with_pors, BothSeparated}
+use Rattle.std.specs.Prelude.{Ok, Err}
+use Rattle.records.specs.declared.refusal.Refusal.TheVariants.{IllFormed}
+use Rattle.rights.specs.declared.answers.Stop.TheVariants.{Faulted, Refused}
+use Rattle.records.specs.Values.{Check}
+use Rattle.rights.specs.Answers.{Answer}
 
 -- a bit of two numbers joined
 joined : (a b k : ℕ) → bit (bit_and a b) k ≡ (bit a k && bit b k)
@@ -58,9 +57,9 @@ off false b h = refl
 
 -- an access whose bit is on is permitted by the stages
 both : (x y : Answer) → permitted (follow x y) ≡ (permitted x && permitted y)
-both answer.Permitted y = refl
-both (answer.Fault g) y = refl
-both (answer.Refused n) y = refl
+both (Ok u) y = refl
+both (Err (Faulted g)) y = refl
+both (Err (Refused n)) y = refl
 
 allowed : (t x : Bool) → (t && x) ≡ true → x ≡ true
 allowed true x e = e
@@ -72,7 +71,7 @@ by-stages s f n e =
     ∙ both (stage1 s f n) (stage2 s f n) ∙ allowed (is_judged s.control.two n) (permitted (stage1 s f n) && permitted (stage2 s f n)) e
 
 -- a list that is done has a bit for each access of its leaves: its demands leave it no refusal
-module _ (b ls o c : List ℕ) (m : ℕ) (d : (list_of b ls o c).answer ≡ Done m) where
+module _ (b ls o c : List ℕ) (m : ℕ) (d : (list_of b ls o c).answer ≡ Ok m) where
   abbrev R : ℕ → Check
   R j = leaf_refusal (setup_of b) (leaf_at ls j)
 
@@ -88,11 +87,11 @@ module _ (b ls o c : List ℕ) (m : ℕ) (d : (list_of b ls o c).answer ≡ Done
       go (none-refused e p) = (demands.done e p).1 i a h
 
 -- bytes that are read as a setup are 52, and the setup is theirs
-is_read : (b : List ℕ) (s : Setup) → read_setup b ≡ setup.Read s → (length b ≡ 52) × (s ≡ setup_of b)
+is_read : (b : List ℕ) (s : Setup) → read_setup b ≡ Ok s → (length b ≡ 52) × (s ≡ setup_of b)
 unfolding read_setup
 is_read b s = go (eqb (length b) 52) refl
   where
-    go : (t : Bool) → eqb (length b) 52 ≡ t → cond t (setup.Read (setup_of b)) (setup.Refused 13) ≡ setup.Read s → (length b ≡ 52) × (s ≡ setup_of b)
+    go : (t : Bool) → eqb (length b) 52 ≡ t → cond t (Ok (setup_of b)) (Err IllFormed) ≡ Ok s → (length b ≡ 52) × (s ≡ setup_of b)
     go true q e = (eqb-true _ _ q, cc)
     go false q e = clash (cc)
 
@@ -106,13 +105,13 @@ own-por s r Unprivileged f x = refl
 -- a largest register of the setup of the bytes b
 module _ (b ls o c : List ℕ) (s : Setup) (l : Level) (r : ℕ) (g : Largest s l ls r) where
   -- put in place in bytes that are read as a setup
-  in-place : (v : List ℕ) (t : Setup) → read_setup v ≡ setup.Read t → read_setup (with_por v l r) ≡ setup.Read (put t l r)
+  in-place : (v : List ℕ) (t : Setup) → read_setup v ≡ Ok t → read_setup (with_por v l r) ≡ Ok (put t l r)
   in-place v t q = let w = is_read v t q in rw w.1 (put-read v l r w.0 g.usable.word)
 
   -- under a setup that answers the accesses of that level as s with the register in place does, a list stops what that level forbids
-  stops : (v : List ℕ) (t : Setup) (m : ℕ) → read_setup v ≡ setup.Read t
+  stops : (v : List ℕ) (t : Setup) (m : ℕ) → read_setup v ≡ Ok t
       → ((f : Leaf) (x : Right) → leaf_answer t f (access_of l x) ≡ leaf_answer (put s l r) f (access_of l x))
-      → (list_of v ls o c).answer ≡ Done m → Stopped l ls (list_of v ls o c).out
+      → (list_of v ls o c).answer ≡ Ok m → Stopped l ls (list_of v ls o c).out
   stops v t m q same d i x h =
       let n = access_number l x in
       let p = (list_of v ls o c).out in
@@ -132,12 +131,12 @@ number_at Privileged = 0
 number_at Unprivileged = 1
 
 -- what the planner answers both is accepted, and each register is the largest
-both-accepted : (b ls : List ℕ) (l : Level) (r : ℕ) → answer_at (both_of b ls) l ≡ Register r → Accepted b (number_at l) ls (setup_of b) l
+both-accepted : (b ls : List ℕ) (l : Level) (r : ℕ) → answer_at (both_of b ls) l ≡ Ok r → Accepted b (number_at l) ls (setup_of b) l
 unfolding both_of
 both-accepted b ls Privileged r e = register-accepted b 0 ls r e
 both-accepted b ls Unprivileged r e = register-accepted b 1 ls r e
 
-both-largest : (b ls : List ℕ) (l : Level) (r : ℕ) → answer_at (both_of b ls) l ≡ Register r → Largest (setup_of b) l ls r
+both-largest : (b ls : List ℕ) (l : Level) (r : ℕ) → answer_at (both_of b ls) l ≡ Ok r → Largest (setup_of b) l ls r
 unfolding both_of
 both-largest b ls Privileged r e = (demand3 b 0 ls (plan_of b 0 ls) refl (setup_of b) Privileged (register-accepted b 0 ls r e)).largest r e
 both-largest b ls Unprivileged r e = (demand3 b 1 ls (plan_of b 1 ls) refl (setup_of b) Unprivileged (register-accepted b 1 ls r e)).largest r e

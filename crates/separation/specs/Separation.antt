@@ -1,6 +1,6 @@
 -- Demand 3 seen by the list: the planner's answer, or those of both levels, put in place of the setup's own registers, and the list of the judge under them.
 -- Assumes nothing.
-use Rattle.std.specs.Prelude.{ℕ, ◌+◌, ◌/◌, ◌<◌, ◌≡◌, false, List, ◌++◌, length, get_or, take, drop}
+use Rattle.std.specs.Prelude.{ℕ, ◌+◌, ◌/◌, ◌<◌, ◌≡◌, false, List, ◌++◌, length, get_or, take, drop, Ok}
 use Rattle.std.specs.Int.Bits.{bit_and}
 use Rattle.records.specs.Access.{access_number}
 use Rattle.records.specs.Bits.{bit}
@@ -11,12 +11,10 @@ use Rattle.records.specs.declared.setup.Setup.{Setup}
 use Rattle.judge.specs.Cases.{bytes_of}
 use Rattle.records.specs.Leaf.{leaf_at}
 use Rattle.judge.specs.List.{list_of}
-use Rattle.judge.specs.declared.answers.Listed.TheVariants.{Done}
 use Rattle.planner.specs.Demands.{Accepted}
 use Rattle.planner.specs.Plan.{plan_of, both_of}
-use Rattle.planner.specs.declared.plan.Plan.{Plan}
-use Rattle.planner.specs.declared.plan.Plan.TheVariants.{Register}
-use Rattle.planner.specs.declared.plan.Plans.{Plans}
+use Rattle.records.specs.declared.setup.PerLevel.{PerLevel}
+use Rattle.planner.specs.Plan.{Plan}
 
 -- where a setup of 52 bytes holds a level's POR
 abbrev pub por_place : Level → ℕ
@@ -37,11 +35,11 @@ Stopped l ls p =
 -- setup with r in place of that level's POR that is not refused stops every forbidden access of that level
 abbrev pub Separated : List ℕ → ℕ → List ℕ → List ℕ → List ℕ → Type 0
 Separated b lv ls o c =
-    (s : Setup) (l : Level) (r m : ℕ) → Accepted b lv ls s l → plan_of b lv ls ≡ Register r
-    → (list_of (with_por b l r) ls o c).answer ≡ Done m → Stopped l ls (list_of (with_por b l r) ls o c).out
+    (s : Setup) (l : Level) (r m : ℕ) → Accepted b lv ls s l → plan_of b lv ls ≡ Ok r
+    → (list_of (with_por b l r) ls o c).answer ≡ Ok m → Stopped l ls (list_of (with_por b l r) ls o c).out
 
 -- a level's answer, of those of both
-abbrev pub answer_at : Plans → Level → Plan
+abbrev pub answer_at : PerLevel Plan → Level → Plan
 answer_at p Privileged = p.privileged
 answer_at p Unprivileged = p.unprivileged
 
@@ -53,5 +51,5 @@ with_pors b r = with_por (with_por b Privileged (r Privileged)) Unprivileged (r 
 -- both levels
 abbrev pub BothSeparated : List ℕ → List ℕ → List ℕ → List ℕ → Type 0
 BothSeparated b ls o c =
-    (r : Level → ℕ) (m : ℕ) → ((l : Level) → answer_at (both_of b ls) l ≡ Register (r l)) → (list_of (with_pors b r) ls o c).answer ≡ Done m
+    (r : Level → ℕ) (m : ℕ) → ((l : Level) → answer_at (both_of b ls) l ≡ Ok (r l)) → (list_of (with_pors b r) ls o c).answer ≡ Ok m
     → (l : Level) → Stopped l ls (list_of (with_pors b r) ls o c).out

@@ -5,17 +5,15 @@
 #![tactic(auto)]
 
 ghost use Rattle.std.specs.Prelude.{◌≡◌, ◌<◌};
-ghost use Rattle.judge.specs.Answers.{judgement_values, list_values};
+ghost use Rattle.judge.specs.Answers.{Judgement, Listed, judgement_values, list_values};
 ghost use Rattle.judge.specs.Demands.{JudgeDemands, ListDemands};
 ghost use Rattle.judge.specs.Judge.{judge_of};
 ghost use Rattle.judge.specs.List.{list_of};
 ghost use Rattle.planner.specs.Demands.{PlannerDemands};
-ghost use Rattle.planner.specs.Plan.{plan_values, plan_of};
+ghost use Rattle.planner.specs.Plan.{Plan, plan_values, plan_of};
 ghost use Rattle.sonsiplex.specs.Packing.{pack_judgement, judgement_fields, pack_list, list_fields, pack_plan, plan_fields};
 
 use crate::packing::{pack_judgement, pack_numbers};
-use judge::answers::{Judgement, Listed};
-use planner::plan::Plan;
 
 mod packing;
 
@@ -44,8 +42,8 @@ pub extern "C" fn sonsiplex_list(
     ensures kept { 0 < (list_fields result).number → (out.new ≡ out.old) × (causes.new ≡ causes.old) }
 {
     match judge::list::list_rights(setup, leaves, out, causes) {
-        Listed::Done(n) => pack_numbers(0, 0, n as u32),
-        Listed::Refused { number, leaf } => pack_numbers(number, leaf as u16, 0),
+        Ok(n) => pack_numbers(0, 0, n as u32),
+        Err(e) => pack_numbers(e.refusal.number(), e.leaf as u16, 0),
     }
 }
 
@@ -56,7 +54,7 @@ pub extern "C" fn sonsiplex_plan(setup: &[u8], level: u64, leaves: &[u8]) -> u64
     ensures demanded { (p : Plan) × (plan_fields result ≡ plan_values p) × PlannerDemands setup.now level leaves.now p }
 {
     match planner::plan_level(setup, level, leaves) {
-        Plan::Register(r) => pack_numbers(0, 0, r as u32),
-        Plan::Refused { number, leaf } => pack_numbers(number, leaf as u16, 0),
+        Ok(register) => pack_numbers(0, 0, register as u32),
+        Err(r) => pack_numbers(r.refusal.number(), r.leaf as u16, 0),
     }
 }

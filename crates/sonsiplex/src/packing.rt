@@ -5,9 +5,8 @@ ghost use Rattle.rights.specs.Answers.{kind_number};
 ghost use Rattle.judge.specs.Answers.{judgement_values};
 ghost use Rattle.sonsiplex.specs.Packing.{pack_judgement, judgement_fields, pack_numbers};
 
-use judge::answers::Judgement;
-use records::number::wide;
-use rights::answers::Kind;
+use attributes::Memory;
+use rights::answers::{Kind, Stop};
 
 fn kind_number(k: Kind) -> u8
     ensures { result ≡ kind_number k }
@@ -25,26 +24,23 @@ fn pack_values(number: u8, stage: u8, kind: u8, byte: u8, sh: u8, cause: u8) -> 
     ensures low { (field result 0 8 ≡ number) × (field result 8 8 ≡ stage) × (field result 16 8 ≡ kind) }
     ensures high { (field result 24 8 ≡ byte) × (field result 32 8 ≡ sh) × (field result 40 8 ≡ cause) }
 {
-    wide(number)
-        + 0x100 * wide(stage)
-        + 0x10000 * wide(kind)
-        + 0x1000000 * wide(byte)
-        + 0x100000000 * wide(sh)
-        + 0x10000000000 * wide(cause)
+    u64::from(number)
+        + 0x100 * u64::from(stage)
+        + 0x10000 * u64::from(kind)
+        + 0x1000000 * u64::from(byte)
+        + 0x100000000 * u64::from(sh)
+        + 0x10000000000 * u64::from(cause)
 }
 
 // A judgement.
-pub(crate) fn pack_judgement(j: Judgement) -> u64
+pub(crate) fn pack_judgement(j: Result<Memory, Stop>) -> u64
     ensures packed { result ≡ pack_judgement (judgement_values j) }
     ensures fields { judgement_fields result ≡ judgement_values j }
 {
     match j {
-        Judgement::Allowed(m) => pack_values(0, 0, 0, m.byte, m.sh, 0),
-        Judgement::Fault(f) => {
-            let k = f.kind;
-            pack_values(0, f.stage, kind_number(k), 0, 0, f.cause)
-        }
-        Judgement::Refused(n) => pack_values(n, 0, 0, 0, 0, 0),
+        Ok(m) => pack_values(0, 0, 0, m.byte, m.sh, 0),
+        Err(Stop::Faulted(f)) => pack_values(0, f.stage, kind_number(f.kind), 0, 0, f.cause),
+        Err(Stop::Refused(r)) => pack_values(r.number(), 0, 0, 0, 0, 0),
     }
 }
 
@@ -53,5 +49,5 @@ pub(crate) fn pack_numbers(number: u8, leaf: u16, value: u32) -> u64
     ensures packed { result ≡ pack_numbers number leaf value }
     ensures fields { (field result 0 8 ≡ number) × (field result 16 16 ≡ leaf) × (field result 32 32 ≡ value) }
 {
-    wide(number) + 0x10000 * leaf as u64 + 0x100000000 * value as u64
+    u64::from(number) + 0x10000 * u64::from(leaf) + 0x100000000 * u64::from(value)
 }

@@ -4,7 +4,7 @@ use Rattle.sonsiplex.proofs.Exported.{list-fit}
 use Rattle.sonsiplex.proofs.sonsiplex_list.Goals as goal
 
 pub overflow_cast-n : goal.overflow_cast-n
-overflow_cast-n c = omega (arith, (list-fit _ _ _ _ _ _ c.list_rights.ensures.answer c.in-Done.is).1)
+overflow_cast-n c = omega (arith, (list-fit _ _ _ _ _ _ c.list_rights.ensures.answer c.in-Ok.is).1)
 
-pub overflow_cast-leaf : goal.overflow_cast-leaf
-overflow_cast-leaf c = omega (arith, (list-fit _ _ _ _ _ _ c.list_rights.ensures.answer c.in-Refused.is).0)
+pub overflow_cast-e : goal.overflow_cast-e
+overflow_cast-e c = omega (arith, (list-fit _ _ _ _ _ _ c.list_rights.ensures.answer c.in-Err.is).0)
