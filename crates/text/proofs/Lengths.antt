@@ -35,10 +35,10 @@ lines-length f (suc m) i g =
     omega (arith, length-append (f i) (lines_from f m (suc i)), g i (omega arith), lines-length f m (suc i) (λ k h. g k (omega (arith, h))))
 
 -- the lines of n leaves, where rights and leaves are bytes
-pub leaves-lines : (rs ls : List ℕ) (n : ℕ) → n ≤ 2048 → ((k : ℕ) → get_or rs k 0 < 256) → ((k : ℕ) → get_or ls k 0 < 256)
+pub leaves_lines : (rs ls : List ℕ) (n : ℕ) → n ≤ 2048 → ((k : ℕ) → get_or rs k 0 < 256) → ((k : ℕ) → get_or ls k 0 < 256)
     → length (lines_from (line_at rs ls) n 0) ≤ n * 17
 unfolding leaf_of
-leaves-lines rs ls n h r f =
+leaves_lines rs ls n h r f =
     lines-length (line_at rs ls) n 0
     (λ k l.
     let e : get_or (leaf_slice ls k) 17 0 ≡ get_or ls (k * 18 + 17) 0 =
@@ -46,20 +46,20 @@ leaves-lines rs ls n h r f =
     leaf-length k (get_or rs k 0) (get_or (leaf_slice ls k) 17 0) (omega (arith, l, h)) (r k) (omega (arith, e, f (k * 18 + 17))))
 
 -- the count, the lines of n leaves and both levels'
-pub map-length : (n : ℕ) (v w : List ℕ) → n ≤ 2048 → length v ≤ n * 17 → length w ≤ 192 → length (last_number (ascii "leaves ") n ++ (v ++ w)) ≤ 36864
-map-length n v w h i j =
+pub map_length : (n : ℕ) (v w : List ℕ) → n ≤ 2048 → length v ≤ n * 17 → length w ≤ 192 → length (last_number (ascii "leaves ") n ++ (v ++ w)) ≤ 36864
+map_length n v w h i j =
     omega (arith, leaves-length n h, i, j, h, length-append (last_number (ascii "leaves ") n) (v ++ w), length-append v w)
 
-pub register-length : (r : ℕ) → length (register_line r) ≡ 17
-register-length r = simp length-append (omega (arith, hex-length r))
+pub register_length : (r : ℕ) → length (register_line r) ≡ 17
+register_length r = simp length-append (omega (arith, hex-length r))
 
 -- a level's line and the other's, each of at most 64 bytes after its word
-pub plans-length : (v w : List ℕ) → length v ≤ 64 → length w ≤ 64 → length (ascii "privileged " ++ (v ++ (ascii "unprivileged " ++ w))) ≤ 192
-plans-length v w h i = omega (arith, length-append v (ascii "unprivileged " ++ w), h, i)
+pub plans_length : (v w : List ℕ) → length v ≤ 64 → length w ≤ 64 → length (ascii "privileged " ++ (v ++ (ascii "unprivileged " ++ w))) ≤ 192
+plans_length v w h i = omega (arith, length-append v (ascii "unprivileged " ++ w), h, i)
 
-pub refusal-length : (k i : ℕ) → k < 256 → i < 2 ^ 64 → length (refusal_line k i) ≤ 64
+pub refusal_length : (k i : ℕ) → k < 256 → i < 2 ^ 64 → length (refusal_line k i) ≤ 64
 unfolding refusal_line
-refusal-length k i hk hi = go (leb 5 k && leb k 10)
+refusal_length k i hk hi = go (leb 5 k && leb k 10)
   where
     go : (t : Bool)
         → length (ascii "refused " ++ cond t (number_then k (ascii " ") ++ last_number (ascii "leaf ") i) (number_then k (ascii "\n"))) ≤ 64

@@ -37,6 +37,7 @@ impl Writer<'_> {
     }
 
     // A refusal: refusals 5 to 10 show the leaf.
+    #[tactic(auto, using(crate::proofs::Lengths::refusal_length))]
     pub(crate) fn refusal(&mut self, number: u8, leaf: usize)
         ensures text { Adds self.old (refusal_line number leaf) self.new }
         ensures short { length (refusal_line number leaf) ≤ 64 }

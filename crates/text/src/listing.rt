@@ -20,6 +20,7 @@ impl Writer<'_> {
     }
 
     // The register of a level, or its refusal.
+    #[tactic(auto, using(crate::proofs::Lengths::register_length))]
     fn plan(&mut self, plan: Plan)
         ensures text { Adds self.old (plan_line plan) self.new }
         ensures short { length (plan_line plan) ≤ 64 }
@@ -31,6 +32,7 @@ impl Writer<'_> {
     }
 
     // A line for each level.
+    #[tactic(auto, unfolding(crate::specs::Listing::plan_lines), using(crate::proofs::Lengths::plans_length))]
     fn plans(&mut self, setup: &[u8], leaves: &[u8])
         ensures text { Adds self.old (plan_lines setup.now leaves.now) self.new }
         ensures short { length (plan_lines setup.now leaves.now) ≤ 192 }
@@ -42,6 +44,7 @@ impl Writer<'_> {
     }
 
     // The lines of a map whose list is not refused.
+    #[tactic(auto, unfolding(crate::specs::Listing::map_lines), using(crate::proofs::Lengths::map_length, crate::proofs::Lengths::leaves_lines))]
     fn map(&mut self, setup: &[u8], leaves: &[u8], rights: &[u8; 2048])
         requires { length leaves.now ≤ 36864 }
         ensures text { Adds self.old (map_lines setup.now leaves.now (length leaves.now / 18) rights.now) self.new }
@@ -53,6 +56,7 @@ impl Writer<'_> {
     }
 
     // The text of a map: its lines, or the refusal of its list.
+    #[tactic(auto, using(crate::proofs::Files::refused))]
     fn list(&mut self, setup: &[u8], leaves: &[u8])
         requires { length leaves.now ≤ 36864 }
         ensures text { Adds self.old (map_text setup.now leaves.now (length leaves.now / 18)) self.new }

@@ -1,6 +1,5 @@
 -- `refusal` writes the number, and the leaf with refusals 5 to 10. Assumes nothing.
 use Rattle.std.proofs.Common.{◌≡◌, true, false, ◌&&◌, leb, append_assoc}
-use Rattle.text.proofs.Lengths.{refusal-length}
 use Rattle.text.proofs.WriterLaws.{then}
 use Rattle.text.specs.Lines.{ascii, decimal, refusal_line}
 use Rattle.text.proofs.writer.Writer.refusal.Goals.{then-number, else-number}
@@ -20,6 +19,3 @@ returns-clause-text c =
           (let hidden : (leb 5 c.args.number && leb c.args.number 10) ≡ false = w.if-number.false in
           rw hidden (then _ _ _ _ _ c.word.ensures (then _ _ _ _ _ n (rw w.self-is at c.word-2.ensures))))
     ]
-
-pub returns-clause-short : goal.returns-clause-short
-returns-clause-short c = refusal-length _ _ c.ranges.number.fits c.ranges.leaf.fits
