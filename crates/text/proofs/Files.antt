@@ -1,10 +1,9 @@
 -- The text of a file by what was read of it, and of a map by what its list answered. Assumes nothing.
 use Rattle.records.proofs.Cases.{clash}
-use mathlib.Core.Path.{◌≡◌, refl, sym, ap, ◌∙◌}
+use mathlib.Core.Path.{◌≡◌, refl, sym, ap}
 use mathlib.Core.Bool.{Bool, true, false}
 use mathlib.Core.List.{List}
 use Prim.Native.Nat.{ℕ, ◌*◌, ◌≤◌, ◌<◌}
-use native.Mathlib.Nat.{zero-add}
 use native.Mathlib.Omega.{arith}
 use lib.ListN.{length, take, drop, replicate, length-append, length-replicate}
 use lib.Seq.{take_at, length-take-le}
@@ -19,7 +18,6 @@ use Rattle.judge.specs.declared.answers.Listed.TheVariants.{Done, Refused}
 use Rattle.io.specs.Counts.{IsPrefixLen}
 use Rattle.text.specs.Lines.{refusal_line}
 use Rattle.text.specs.Listing.{map_lines, listed, map_text, text_of, written}
-use Rattle.text.specs.Mirror.Put.{Put}
 
 -- the list's answer x, with the rights rs written
 module _ (b ls : List ℕ) (n : ℕ) (x : Listed) where
@@ -79,10 +77,6 @@ module _ (s ls : List ℕ) (x : FileRead) where
 
   pub of-refused : (k : ℕ) → Answered → x ≡ file.Refused k → text_of s ≡ refusal_line k 0
   of-refused k e f = rw f at (told e)
-
--- nothing before the text
-pub whole-text : (o t p : List ℕ) (r : ℕ) → Put o 0 t p r → (r ≡ length t) × (p ≡ over t o)
-whole-text o t p r a = (a.next ∙ zero-add (length t), a.bytes ∙ rw zero-add)
 
 -- the text lies within the buffer
 counts : (r : ℕ) (t p o : List ℕ) → r ≡ length t → p ≡ over t o → IsPrefixLen r p

@@ -1,5 +1,5 @@
 pub mod Digits
-pub mod Puts
 pub mod Lengths
+pub mod WriterLaws
 pub mod Files
 pub mod LineLaws

@@ -1,58 +1,53 @@
-// What the lines of the program's text are made of, put into a lent buffer.
-ghost use Rattle.std.specs.Prelude.{◌≡◌, ◌+◌, ◌≤◌, length};
-ghost use Rattle.text.specs.Mirror.Put.{item_text, Put, placed};
+// The lines of the program's text.
+use crate::writer::Writer;
 
-use crate::lines::put::{put_last, put_leaf, put_refusal, put_register, put_word};
+impl Writer<'_> {
+    ghost use Rattle.std.specs.Prelude.{◌≤◌, length};
+    ghost use Rattle.text.specs.Lines.{ascii, last_number, leaf_line, refusal_line, register_line};
+    ghost use Rattle.text.specs.Mirror.Writer.{Adds};
 
-mod put;
-
-// The leaf count, a leaf's line, the word before a level's register, a register that ends its line, a refusal that ends its line.
-#[derive(Clone, Copy)]
-pub(crate) enum Item {
-    Leaves(usize),
-    Leaf {
-        index: usize,
-        rights: u8,
-        forbidden: u8,
-    },
-    Privileged,
-    Unprivileged,
-    Register(u64),
-    Refusal {
-        number: u8,
-        leaf: usize,
-    },
-}
-
-// Puts an item where there is room.
-fn put_here(out: &mut [u8], at: usize, item: Item) -> usize
-    requires { at + 64 ≤ length out.old }
-    ensures { Put out.old at (item_text item) out.new result }
-{
-    match item {
-        Item::Leaves(n) => put_last(out, at, b"leaves ", n as u64),
-        Item::Leaf {
-            index,
-            rights,
-            forbidden,
-        } => put_leaf(out, at, index, rights, forbidden),
-        Item::Privileged => put_word(out, at, b"privileged "),
-        Item::Unprivileged => put_word(out, at, b"unprivileged "),
-        Item::Register(r) => put_register(out, at, r),
-        Item::Refusal { number, leaf } => put_refusal(out, at, number, leaf),
+    // The leaf count.
+    pub(crate) fn leaf_count(&mut self, n: usize)
+        ensures { Adds self.old (last_number (ascii "leaves ") n) self.new }
+    {
+        self.word(b"leaves ");
+        self.number(n as u64);
+        self.word(b"\n");
     }
-}
 
-// Puts an item at index `at` and answers the index after it; with fewer than 64 bytes from there on it answers `at` and writes nothing.
-pub(crate) fn put_item(out: &mut [u8], at: usize, item: Item) -> usize
-    ensures next { result ≡ (placed out.old at (item_text item)).next }
-    ensures text { out.new ≡ (placed out.old at (item_text item)).out }
-{
-    if out.len() < 64 {
-        return at;
+    // A leaf: index, rights, forbidden and their common bits.
+    pub(crate) fn leaf(&mut self, i: usize, r: u8, f: u8)
+        ensures { Adds self.old (leaf_line i r f) self.new }
+    {
+        self.number(i as u64);
+        self.word(b" ");
+        self.number(u64::from(r));
+        self.word(b" ");
+        self.number(u64::from(f));
+        self.word(b" ");
+        self.number(u64::from(r & f));
+        self.word(b"\n");
     }
-    if out.len() - 64 < at {
-        return at;
+
+    pub(crate) fn register(&mut self, r: u64)
+        ensures { Adds self.old (register_line r) self.new }
+    {
+        self.hex(r);
+        self.word(b"\n");
     }
-    put_here(out, at, item)
+
+    // A refusal: refusals 5 to 10 show the leaf.
+    #[tactic(auto, using(crate::proofs::Lengths::refusal_length))]
+    pub(crate) fn refusal(&mut self, number: u8, leaf: usize)
+        ensures text { Adds self.old (refusal_line number leaf) self.new }
+        ensures short { length (refusal_line number leaf) ≤ 64 }
+    {
+        self.word(b"refused ");
+        self.number(u64::from(number));
+        if (5 <= number) & (number <= 10) {
+            self.word(b" leaf ");
+            self.number(leaf as u64);
+        }
+        self.word(b"\n");
+    }
 }
