@@ -6,7 +6,7 @@ use std::io;
 use std::io::Read;
 
 // A longest map file is 43,063 bytes, a setup field and 2,048 leaf fields. One byte more is read, so that a longer input is seen to be
-// ill-formed however long it is.
+// ill-formed however long it is. `copy` counts no more bytes than `take` lets through, but its contract says so of known bytes alone: hence `get`.
 const MOST: usize = 43064;
 
 fn main(rt: HostRuntime) -> io::Result<()> {

@@ -107,6 +107,7 @@ pub(crate) fn print_leaf(rt: &impl Print, w: &Case) -> io::Result<()> {
     print_limits(rt, l.limits, l.forbidden)
 }
 
+// Here and below a function stands in place of Display, which the crate of the enum alone can give it.
 fn level_word(l: Level) -> &'static str {
     match l {
         Level::Privileged => "privileged",

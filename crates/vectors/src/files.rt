@@ -4,13 +4,9 @@ use crate::table::{Buffer, Case, front, record};
 use records::mapfile::FileRead;
 use std::io;
 
-// Reads a map file, with `room` bytes of `leaves` lent for the leaves, and prints the answer and how many bytes the setup has; 0 for a
-// refused file.
-fn print_read(rt: &impl Print, file: &[u8], leaves: &mut [u8], room: usize) -> io::Result<()> {
-    let Some(lent) = leaves.get_mut(..room) else {
-        return Ok(());
-    };
-    match records::mapfile::read_file(file, lent) {
+// Reads a map file, with `leaves` lent for the leaves, and prints the answer and how many bytes the setup has; 0 for a refused file.
+fn print_read(rt: &impl Print, file: &[u8], leaves: &mut [u8]) -> io::Result<()> {
+    match records::mapfile::read_file(file, leaves) {
         FileRead::Map(n) => {
             let setup = records::mapfile::setup_bytes(file);
             print!(rt; " map {n} setup bytes {}", setup.len())
@@ -19,10 +15,12 @@ fn print_read(rt: &impl Print, file: &[u8], leaves: &mut [u8], room: usize) -> i
     }
 }
 
-// The same with a fresh buffer, and prints how many of its bytes changed.
-fn print_changed(rt: &impl Print, file: &[u8], room: usize) -> io::Result<()> {
+// The same with the first `room` bytes of a fresh buffer, and prints how many of its bytes changed.
+fn print_changed(rt: &impl Print, file: &[u8], room: u64) -> io::Result<()> {
     let mut leaves = [170u8; 36866];
-    print_read(rt, file, &mut leaves, room)?;
+    if let Some(lent) = leaves.get_mut(..room as usize) {
+        print_read(rt, file, lent)?;
+    }
     let changed = leaves.iter().filter(|b| **b != 170).count();
     println!(rt; " leaf bytes changed {changed}")
 }
@@ -47,5 +45,5 @@ pub(crate) fn print_file(rt: &impl Print, w: &Case) -> io::Result<()> {
         return Ok(());
     };
     *byte = (w[4] & 0xff) as u8;
-    print_changed(rt, front(&file, w[1]), w[2] as usize)
+    print_changed(rt, front(&file, w[1]), w[2])
 }

@@ -4,6 +4,7 @@ use judge::answers::Judgement;
 use rights::answers::{Fault, Kind};
 use std::io;
 
+// In place of Display, which the crate of the enum alone can give it.
 fn letter(k: Kind) -> char {
     match k {
         Kind::Translation => 'T',

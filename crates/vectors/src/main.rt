@@ -26,6 +26,7 @@ mod lists;
 mod output;
 mod table;
 
+// An enum of the kinds would be made by a match on the number and taken apart by a second one: this one is plainer.
 fn print_answer(rt: &impl Print, w: &Case) -> io::Result<()> {
     match w[0] {
         0 => decoding::print_setup(rt, w),
@@ -50,6 +51,7 @@ fn print_case(rt: &impl Print, line: &[u8]) -> io::Result<()> {
     print_answer(rt, &table::words(numbers))
 }
 
+// Of the input the first 65,536 bytes are read. `get` as in `listing`: the count of `copy` has no bound of its own.
 fn main(rt: HostRuntime) -> io::Result<()> {
     let mut table = [0u8; 65536];
     let n = io::copy(&mut rt.stdin().take(65536), &mut &mut table[..])?;

@@ -11,7 +11,7 @@ pub(crate) const SETUP: [usize; 7] = [4, 8, 8, 8, 8, 8, 8];
 // Those of a leaf: both descriptors, limits and forbidden.
 pub(crate) const LEAF: [usize; 4] = [8, 8, 1, 1];
 
-// Those of two leaves, of which the last number is put whole.
+// Those of two leaves. The last number is put whole, so that what of it is above a byte falls on the next leaf.
 pub(crate) const LEAVES: [usize; 8] = [8, 8, 1, 1, 8, 8, 1, 8];
 
 // The last sixteen of a text's hexadecimal digits as a number. What is no digit is passed over, and a capital is none.
