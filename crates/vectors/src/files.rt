@@ -1,66 +1,49 @@
 // Prints what the record layer reads of document 01's example as a map file, cut, made longer or with a byte changed, and how many lent
 // bytes changed.
-use crate::output::form;
-use crate::table::{Buffer, Case, front, low, more, put, record, words};
+use crate::table::{Buffer, Case, front, record};
 use records::mapfile::FileRead;
 use std::io;
 
-// How many bytes are not 170.
-fn changed(s: &[u8]) -> u64 {
-    let mut n: usize = 0;
-    let mut i: usize = 0;
-    while i < s.len() {
-        n = more(n, s[i] != 170);
-        i += 1;
-    }
-    n as u64
-}
-
-// Reads a map file, with `room` bytes of `leaves` lent for the leaves, and prints the answer and how many bytes the setup has; 0 for a
-// refused file.
-fn print_read(rt: &impl Print, file: &[u8], leaves: &mut [u8], room: usize) -> io::Result<()> {
-    if leaves.len() < room {
-        return Ok(());
-    }
-    match records::mapfile::read_file(file, &mut leaves[0..room]) {
+// Reads a map file, with `leaves` lent for the leaves, and prints the answer and how many bytes the setup has; 0 for a refused file.
+fn print_read(rt: &impl Print, file: &[u8], leaves: &mut [u8]) -> io::Result<()> {
+    match records::mapfile::read_file(file, leaves) {
         FileRead::Map(n) => {
             let setup = records::mapfile::setup_bytes(file);
-            form(rt, b" map # setup bytes #", &[n as u64, setup.len() as u64])
+            print!(rt; " map {n} setup bytes {}", setup.len())
         }
-        FileRead::Refused(k) => form(rt, b" refused # setup bytes 0", &[k as u64]),
+        FileRead::Refused(k) => print!(rt; " refused {k} setup bytes 0"),
     }
 }
 
-// The same with a fresh buffer, and prints how many of its bytes changed.
-fn print_changed(rt: &impl Print, file: &[u8], room: usize) -> io::Result<()> {
+// The same with the first `room` bytes of a fresh buffer, and prints how many of its bytes changed.
+fn print_changed(rt: &impl Print, file: &[u8], room: u64) -> io::Result<()> {
     let mut leaves = [170u8; 36866];
-    print_read(rt, file, &mut leaves, room)?;
-    form(rt, b" leaf bytes changed #\n", &[changed(&leaves)])
-}
-
-// The example's setup and two leaves, each after the header of its field.
-fn start() -> Buffer {
-    let w = words(b"3401 2b 0 0 11 58 0 7 1202 747 0 0 10 1202 707 0 0 10");
-    record(b"348888883881138811", &w, 0)
-}
-
-// The example with 2,047 leaves of zeros after its own.
-fn example() -> Buffer {
-    let mut file = start();
-    let mut i: usize = 2;
-    while i < 2049 {
-        put(&mut file, 55 + 21 * i, 0x1202);
-        i += 1;
+    if let Some(lent) = leaves.get_mut(..room as usize) {
+        print_read(rt, file, lent)?;
     }
+    let changed = leaves.iter().filter(|b| **b != 170).count();
+    println!(rt; " leaf bytes changed {changed}")
+}
+
+// The example's setup and two leaves, each after the header of its field, then 2,047 leaves of zeros.
+fn example() -> Buffer {
+    let sizes = [3, 4, 8, 8, 8, 8, 8, 8, 3, 8, 8, 1, 1, 3, 8, 8, 1, 1];
+    let numbers = [
+        0x3401, 0x2b, 0, 0, 0x11, 0x58, 0, 7, 0x1202, 0x747, 0, 0, 0x10, 0x1202, 0x707, 0, 0, 0x10,
+    ];
+    let mut file = record(&sizes, &numbers);
+    let mut leaf = [0; 21];
+    leaf[..3].copy_from_slice(&[2, 18, 0]);
+    let (leaves, _) = file[97..].as_chunks_mut::<21>();
+    leaves.fill(leaf);
     file
 }
 
 pub(crate) fn print_file(rt: &impl Print, w: &Case) -> io::Result<()> {
-    let at = w[3] as usize;
-    if 43084 <= at {
-        return Ok(());
-    }
     let mut file = example();
-    file[at] = low(w[4]);
-    print_changed(rt, front(&file, w[1] as usize), w[2] as usize)
+    let Some(byte) = file.get_mut(w[3] as usize) else {
+        return Ok(());
+    };
+    *byte = (w[4] & 0xff) as u8;
+    print_changed(rt, front(&file, w[1]), w[2])
 }

@@ -15,19 +15,18 @@
 // What of a list lies past its two leaves is zeros.
 #![tactic(auto)]
 
-ghost use Rattle.std.specs.Prelude.{◌≤◌, length};
-
 use crate::table::Case;
 use std::io;
+use std::io::Read;
 
 mod decoding;
 mod files;
-mod input;
 mod judgements;
 mod lists;
 mod output;
 mod table;
 
+// An enum of the kinds would be made by a match on the number and taken apart by a second one: this one is plainer.
 fn print_answer(rt: &impl Print, w: &Case) -> io::Result<()> {
     match w[0] {
         0 => decoding::print_setup(rt, w),
@@ -40,35 +39,25 @@ fn print_answer(rt: &impl Print, w: &Case) -> io::Result<()> {
         7 => judgements::print_judgement(rt, w),
         8 => lists::print_list(rt, w),
         9 => lists::print_plan(rt, w),
-        _ => output::text(rt, b"unknown kind\n"),
+        _ => println!(rt; "unknown kind"),
     }
-}
-
-// The index of the first byte `b`, or the text's length where there is none.
-fn find(t: &[u8], b: u8) -> usize
-    ensures { result ≤ length t.now }
-{
-    t.iter().position(|c| *c == b).unwrap_or(t.len())
 }
 
 fn print_case(rt: &impl Print, line: &[u8]) -> io::Result<()> {
-    let n = find(line, b':');
-    output::text(rt, table::past(line, n, 2))?;
-    print_answer(rt, &table::words(table::front(line, n)))
+    let mut parts = line.splitn(2, |c| *c == b':');
+    let numbers = parts.next().unwrap_or(&[]);
+    let name = parts.next().unwrap_or(&[]);
+    rt.write_all(name.get(1..).unwrap_or(&[]))?;
+    print_answer(rt, &table::words(numbers))
 }
 
-fn print_cases(rt: &impl Print, t: &[u8]) -> io::Result<()> {
-    let mut at: usize = 0;
-    while at < t.len() {
-        let end = at + find(&t[at..], b'\n');
-        print_case(rt, &t[at..end])?;
-        at = end + 1;
-    }
-    Ok(())
-}
-
+// Of the input the first 65,536 bytes are read. `get` as in `listing`: the count of `copy` has no bound of its own.
 fn main(rt: HostRuntime) -> io::Result<()> {
     let mut table = [0u8; 65536];
-    let n = input::read_full(&mut rt.stdin(), &mut table)?;
-    print_cases(&rt, &table[..n])
+    let n = io::copy(&mut rt.stdin().take(65536), &mut &mut table[..])?;
+    let cases = table.get(..n as usize).unwrap_or(&table);
+    for line in cases.split_inclusive(|c| *c == b'\n') {
+        print_case(&rt, line.strip_suffix(b"\n").unwrap_or(line))?;
+    }
+    Ok(())
 }

@@ -1,66 +1,30 @@
-// Answers printed to standard output.
-use crate::table::more;
-use std::io;
+// What an answer's line is made of.
+use std::fmt;
 
-pub(crate) fn text(rt: &impl Print, t: &[u8]) -> io::Result<()> {
-    rt.write_all(t)
-}
+// The words whose flag is on, each after a space.
+#[derive(Clone, Copy)]
+pub(crate) struct Flags<'a>(pub(crate) &'a [(&'a str, bool)]);
 
-// The byte at index `i`, where `here` is on.
-fn print_byte(rt: &impl Print, here: bool, t: &[u8], i: usize) -> io::Result<()> {
-    if here {
-        if i < t.len() {
-            return text(rt, &t[i..i + 1]);
+impl fmt::Display for Flags<'_> {
+    fn fmt<W: fmt::Write>(&self, f: &mut fmt::Formatter<W>) -> fmt::Result {
+        for (word, on) in self.0 {
+            if *on {
+                write!(f, " {word}")?;
+            }
         }
+        Ok(())
     }
-    Ok(())
 }
 
-// Whether word `k` is printed: the text before the first space and the words after the last flag are.
-fn flag(on: &[bool], k: usize) -> bool {
-    if k == 0 {
-        return true;
-    }
-    if k - 1 < on.len() {
-        return on[k - 1];
-    }
-    true
-}
+// Bytes in decimal, each after a space.
+#[derive(Clone, Copy)]
+pub(crate) struct Bytes<'a>(pub(crate) &'a [u8]);
 
-// The number at index `k` where `c` asks for it: `#` in decimal, `$` as the sixteen digits of a register.
-fn print_value(rt: &impl Print, c: u8, values: &[u64], k: usize) -> io::Result<()> {
-    if values.len() <= k {
-        return Ok(());
+impl fmt::Display for Bytes<'_> {
+    fn fmt<W: fmt::Write>(&self, f: &mut fmt::Formatter<W>) -> fmt::Result {
+        for byte in self.0 {
+            write!(f, " {byte}")?;
+        }
+        Ok(())
     }
-    let value = values[k];
-    if c == b'#' {
-        return print!(rt; "{value}");
-    }
-    if c == b'$' {
-        return print!(rt; "{value:016x}");
-    }
-    Ok(())
-}
-
-// A text without the words whose flag is off: a flag to each word after the first, in order. In place of each `#` stands the next number in
-// decimal, of each `$` the next as the sixteen digits of a register. Numbers and the line's end are always printed.
-pub(crate) fn line(rt: &impl Print, t: &[u8], on: &[bool], values: &[u64]) -> io::Result<()> {
-    let mut w: usize = 0;
-    let mut k: usize = 0;
-    let mut i: usize = 0;
-    while i < t.len() {
-        let c = t[i];
-        let value = (c == b'#') | (c == b'$');
-        w = more(w, c == b' ');
-        print_value(rt, c, values, k)?;
-        print_byte(rt, (c == 10) | (flag(on, w) & !value), t, i)?;
-        k = more(k, value);
-        i += 1;
-    }
-    Ok(())
-}
-
-// A text with numbers.
-pub(crate) fn form(rt: &impl Print, t: &[u8], values: &[u64]) -> io::Result<()> {
-    line(rt, t, &[], values)
 }
