@@ -3,6 +3,8 @@
 ghost use Rattle.std.specs.Prelude.{◌≡◌, ◌<◌};
 ghost use Rattle.records.specs.Access.{read_access, level_in, has_right, has, bits_in};
 
+use std::fmt;
+
 #[derive(Clone, Copy, PartialEq, Eq, Debug)]
 pub enum Level {
     Privileged,
@@ -14,6 +16,25 @@ pub enum Right {
     Read,
     Write,
     Execute,
+}
+
+impl fmt::Display for Level {
+    fn fmt<W: fmt::Write>(&self, f: &mut fmt::Formatter<W>) -> fmt::Result {
+        f.write_str(match self {
+            Level::Privileged => "privileged",
+            Level::Unprivileged => "unprivileged",
+        })
+    }
+}
+
+impl fmt::Display for Right {
+    fn fmt<W: fmt::Write>(&self, f: &mut fmt::Formatter<W>) -> fmt::Result {
+        f.write_str(match self {
+            Right::Read => "read",
+            Right::Write => "write",
+            Right::Execute => "execute",
+        })
+    }
 }
 
 // A right of a level.

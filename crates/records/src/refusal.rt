@@ -2,6 +2,8 @@
 ghost use Rattle.std.specs.Prelude.{◌≡◌};
 ghost use Rattle.records.specs.Values.{check_if, refusal_number, unplaced};
 
+use std::fmt;
+
 // The refusals by the paper's numbers, from 1 on.
 #[derive(Clone, Copy, PartialEq, Eq, Debug)]
 pub enum Refusal {
@@ -56,6 +58,13 @@ impl Refusal {
     }
 }
 
+// The number.
+impl fmt::Display for Refusal {
+    fn fmt<W: fmt::Write>(&self, f: &mut fmt::Formatter<W>) -> fmt::Result {
+        write!(f, "{}", self.number())
+    }
+}
+
 // A list's refusal, with the index of the leaf that is at fault, 0 if none is.
 #[derive(Clone, Copy, PartialEq, Eq, Debug)]
 pub struct LeafRefusal {
@@ -68,6 +77,12 @@ impl From<Refusal> for LeafRefusal {
 
     fn from(refusal: Refusal) -> LeafRefusal {
         LeafRefusal { refusal, leaf: 0 }
+    }
+}
+
+impl fmt::Display for LeafRefusal {
+    fn fmt<W: fmt::Write>(&self, f: &mut fmt::Formatter<W>) -> fmt::Result {
+        write!(f, "{} leaf {}", self.refusal, self.leaf)
     }
 }
 

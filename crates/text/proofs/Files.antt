@@ -11,24 +11,25 @@ use borrow.Author.Tests.{le-leb, lt-ltb, le-ltb}
 use Rattle.records.proofs.LeafFields.{whole, counted}
 use Rattle.records.specs.MapFile.{begins_with, rest, Leaves, leaves, ill_formed, file_of, setup_in, result_of, read_file}
 use Rattle.records.specs.Bytes.{over}
-use Rattle.records.specs.declared.mapfile.FileRead.{FileRead}
-use Rattle.records.specs.declared.mapfile.FileRead.TheVariants as file
-use Rattle.judge.specs.declared.answers.Listed.{Listed}
-use Rattle.judge.specs.declared.answers.Listed.TheVariants.{Done, Refused}
 use Rattle.io.specs.Counts.{IsPrefixLen}
 use Rattle.text.specs.Lines.{refusal_line}
 use Rattle.text.specs.Listing.{map_lines, listed, map_text, text_of, written}
+use Rattle.std.specs.Prelude.{Result, Ok, Err}
+use Rattle.records.specs.declared.refusal.Refusal.{Refusal}
+use Rattle.records.specs.Values.{refusal_number}
+use Rattle.records.specs.declared.refusal.LeafRefusal.{LeafRefusal}
+use Rattle.judge.specs.Answers.{Listed}
 
 -- the list's answer x, with the rights rs written
 module _ (b ls : List ℕ) (n : ℕ) (x : Listed) where
-  pub done : (m : ℕ) (rs : List ℕ) → x ≡ (listed b ls).answer → rs ≡ (listed b ls).out → x ≡ Done m
+  pub done : (m : ℕ) (rs : List ℕ) → x ≡ (listed b ls).answer → rs ≡ (listed b ls).out → x ≡ Ok m
       → map_text b ls n ≡ map_lines b ls n rs
   unfolding map_text
   done m rs e f g = rw (← f, ← e, g)
 
-  pub refused : (k i : ℕ) → x ≡ (listed b ls).answer → x ≡ Refused k i → map_text b ls n ≡ refusal_line k i
+  pub refused : (r : LeafRefusal) → x ≡ (listed b ls).answer → x ≡ Err r → map_text b ls n ≡ refusal_line (refusal_number r.refusal) r.leaf
   unfolding map_text
-  refused k i e g = rw (← e, g)
+  refused r e g = rw (← e, g)
 
 -- a file that is read as a map has a first field of 52 bytes and at most 2,048 leaf fields, of 18 bytes each
 file-counted : (s : List ℕ) (n : ℕ) (ls : List ℕ) → file_of s ≡ leaves n ls → (55 ≤ length s) × ((n ≤ 2048) × (length ls ≡ n * 18))
@@ -46,9 +47,9 @@ pub record Read (s : List ℕ) (n : ℕ) (ls : List ℕ) : Type 0 where
   pub text : text_of s ≡ map_text (setup_in s) (take (n * 18) ls) n
 
 -- what the answer of `read_file`, which leaves ls in its buffer, tells of the text
-abbrev Told : List ℕ → FileRead → List ℕ → Type 0
-Told s (file.Map n) ls = Read s n ls
-Told s (file.Refused k) ls = text_of s ≡ refusal_line k 0
+abbrev Told : List ℕ → (Result ℕ Refusal) → List ℕ → Type 0
+Told s (Ok n) ls = Read s n ls
+Told s (Err k) ls = text_of s ≡ refusal_line (refusal_number k) 0
 
 -- the buffer z that is lent is long enough
 holds : (s z : List ℕ) → 36864 ≤ length z → (x : Leaves) → file_of s ≡ x → Told s (result_of x z).answer (result_of x z).leaves
@@ -64,7 +65,7 @@ holds s z h (leaves n ls) e =
     })
 
 -- the answer x of `read_file`
-module _ (s ls : List ℕ) (x : FileRead) where
+module _ (s ls : List ℕ) (x : (Result ℕ Refusal)) where
   abbrev Answered : Type 0
   Answered = (x ≡ (read_file s (replicate 36864 0)).answer) × (ls ≡ (read_file s (replicate 36864 0)).leaves)
 
@@ -72,10 +73,10 @@ module _ (s ls : List ℕ) (x : FileRead) where
   unfolding read_file
   told e = rw (e.0, e.1) (holds s (replicate 36864 0) (omega (arith, length-replicate {A = ℕ} 36864 0)) (file_of s) refl)
 
-  pub of_map : (n : ℕ) → Answered → x ≡ file.Map n → Read s n ls
+  pub of_map : (n : ℕ) → Answered → x ≡ Ok n → Read s n ls
   of_map n e f = rw f at (told e)
 
-  pub of-refused : (k : ℕ) → Answered → x ≡ file.Refused k → text_of s ≡ refusal_line k 0
+  pub of-refused : (k : Refusal) → Answered → x ≡ Err k → text_of s ≡ refusal_line (refusal_number k) 0
   of-refused k e f = rw f at (told e)
 
 -- the text lies within the buffer

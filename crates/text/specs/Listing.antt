@@ -1,15 +1,14 @@
 -- Document 01, 'File, program, host': the lines that the program prints for a file. Assumes nothing.
-use Rattle.std.specs.Prelude.{ℕ, zero, suc, cond, List, [], ◌++◌, ltb, length, get_or, replicate}
+use Rattle.std.specs.Prelude.{ℕ, zero, suc, cond, List, [], ◌++◌, ltb, length, get_or, replicate, Ok, Err}
 use Rattle.records.specs.MapFile.{Leaves, leaves, ill_formed, value, file_of}
 use Rattle.records.specs.Bytes.{over}
 use Rattle.records.specs.Leaf.{leaf_at}
 use Rattle.judge.specs.List.{ListResult, list_of}
-use Rattle.judge.specs.declared.answers.Listed.{Listed}
-use Rattle.judge.specs.declared.answers.Listed.TheVariants as answer
 use Rattle.planner.specs.Plan.{plan_of}
-use Rattle.planner.specs.declared.plan.Plan.{Plan}
-use Rattle.planner.specs.declared.plan.Plan.TheVariants as plan
 use Rattle.text.specs.Lines.{last_number, refusal_line, leaf_line, register_line, ascii}
+use Rattle.records.specs.Values.{refusal_number}
+use Rattle.judge.specs.Answers.{Listed}
+use Rattle.planner.specs.Plan.{Plan}
 
 -- the line of leaf i, whose rights the list wrote
 abbrev pub line_at : List ℕ → List ℕ → ℕ → List ℕ
@@ -22,8 +21,8 @@ lines_from f (suc m) i = f i ++ lines_from f m (suc i)
 
 -- a level's register as 16 hex digits, or its refusal
 abbrev pub plan_line : Plan → List ℕ
-plan_line (plan.Register r) = register_line r
-plan_line (plan.Refused k i) = refusal_line k i
+plan_line (Ok r) = register_line r
+plan_line (Err r) = refusal_line (refusal_number r.refusal) r.leaf
 
 -- each level's register or refusal, for a setup and leaves
 unfoldable pub plan_lines : List ℕ → List ℕ → List ℕ
@@ -36,8 +35,8 @@ map_lines b ls n rs = last_number (ascii "leaves ") n ++ (lines_from (line_at rs
 
 -- a refusal of the list prints one line instead
 abbrev pub list_lines : List ℕ → List ℕ → ℕ → Listed → List ℕ → List ℕ
-list_lines b ls n (answer.Done m) rs = map_lines b ls n rs
-list_lines b ls n (answer.Refused k i) rs = refusal_line k i
+list_lines b ls n (Ok m) rs = map_lines b ls n rs
+list_lines b ls n (Err r) rs = refusal_line (refusal_number r.refusal) r.leaf
 
 -- the list, for which buffers of zeros are lent, 2,048 for the rights and six times as many for the causes, which no line shows
 abbrev pub listed : List ℕ → List ℕ → ListResult

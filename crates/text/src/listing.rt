@@ -1,8 +1,6 @@
 // The text of a map file.
 use crate::writer::Writer;
-use judge::answers::Listed;
-use planner::plan::Plan;
-use records::mapfile::FileRead;
+use records::refusal::LeafRefusal;
 
 impl Writer<'_> {
     ghost use Rattle.std.specs.Prelude.{◌/◌, ◌≤◌, length};
@@ -21,13 +19,13 @@ impl Writer<'_> {
 
     // The register of a level, or its refusal.
     #[tactic(auto, using(crate::proofs::Lengths::register_length))]
-    fn plan(&mut self, plan: Plan)
+    fn plan(&mut self, plan: Result<u64, LeafRefusal>)
         ensures text { Adds self.old (plan_line plan) self.new }
         ensures short { length (plan_line plan) ≤ 64 }
     {
         match plan {
-            Plan::Register(r) => self.register(r),
-            Plan::Refused { number, leaf } => self.refusal(number, leaf),
+            Ok(register) => self.register(register),
+            Err(r) => self.refusal(r.refusal.number(), r.leaf),
         }
     }
 
@@ -65,8 +63,8 @@ impl Writer<'_> {
         let mut rights = [0u8; 2048];
         let mut causes = [0u8; 12288];
         match judge::list::list_rights(setup, leaves, &mut rights, &mut causes) {
-            Listed::Done(_) => self.map(setup, leaves, &rights),
-            Listed::Refused { number, leaf } => self.refusal(number, leaf),
+            Ok(_) => self.map(setup, leaves, &rights),
+            Err(r) => self.refusal(r.refusal.number(), r.leaf),
         }
     }
 
@@ -77,8 +75,8 @@ impl Writer<'_> {
     {
         let mut leaves = [0u8; 36864];
         match records::mapfile::read_file(file, &mut leaves) {
-            FileRead::Map(n) => self.list(records::mapfile::setup_bytes(file), &leaves[..n * 18]),
-            FileRead::Refused(k) => self.refusal(k, 0),
+            Ok(n) => self.list(records::mapfile::setup_bytes(file), &leaves[..n * 18]),
+            Err(refusal) => self.refusal(refusal.number(), 0),
         }
     }
 }

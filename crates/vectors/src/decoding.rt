@@ -1,9 +1,9 @@
 // Prints what the record layer reads of a setup, a leaf, a descriptor, a control word and an access number.
 use crate::output::Flags;
 use crate::table::{Case, LEAF, front, record, setup};
-use records::access::{AccessRead, Level, Right};
-use records::leaf::LeafRead;
-use records::setup::{Control, Setup, SetupRead};
+use records::access::read_access;
+use records::leaf::read_leaf;
+use records::setup::{Control, Setup, read_control, read_setup};
 use std::io;
 
 fn print_control(rt: &impl Print, c: Control) -> io::Result<()> {
@@ -27,7 +27,7 @@ fn print_control(rt: &impl Print, c: Control) -> io::Result<()> {
 }
 
 pub(crate) fn print_control_word(rt: &impl Print, x: u64) -> io::Result<()> {
-    print_control(rt, records::setup::read_control((x & 0xffffffff) as u32))
+    print_control(rt, read_control((x & 0xffffffff) as u32))
 }
 
 fn print_registers(rt: &impl Print, s: Setup) -> io::Result<()> {
@@ -38,11 +38,13 @@ fn print_registers(rt: &impl Print, s: Setup) -> io::Result<()> {
 
 pub(crate) fn print_setup(rt: &impl Print, w: &Case) -> io::Result<()> {
     let b = setup(w);
-    let SetupRead::Read(s) = records::setup::read_setup(front(&b, w[1])) else {
-        return println!(rt; "setup refused 13");
-    };
-    print_control(rt, s.control)?;
-    print_registers(rt, s)
+    match read_setup(front(&b, w[1])) {
+        Ok(s) => {
+            print_control(rt, s.control)?;
+            print_registers(rt, s)
+        }
+        Err(refusal) => println!(rt; "setup refused {refusal}"),
+    }
 }
 
 pub(crate) fn print_stage1(rt: &impl Print, d: u64, pir: u64, por: u64) -> io::Result<()> {
@@ -99,37 +101,19 @@ fn print_limits(rt: &impl Print, l: u8, forbidden: u8) -> io::Result<()> {
 
 pub(crate) fn print_leaf(rt: &impl Print, w: &Case) -> io::Result<()> {
     let b = record(&LEAF, &w[2..]);
-    let LeafRead::Read(l) = records::leaf::read_leaf(front(&b, w[1])) else {
-        return println!(rt; "leaf refused 13");
-    };
-    print_stage1(rt, l.stage1, w[6], w[7])?;
-    print_stage2(rt, l.stage2)?;
-    print_limits(rt, l.limits, l.forbidden)
-}
-
-// Here and below a function stands in place of Display, which the crate of the enum alone can give it.
-fn level_word(l: Level) -> &'static str {
-    match l {
-        Level::Privileged => "privileged",
-        Level::Unprivileged => "unprivileged",
-    }
-}
-
-fn right_word(r: Right) -> &'static str {
-    match r {
-        Right::Read => "read",
-        Right::Write => "write",
-        Right::Execute => "execute",
+    match read_leaf(front(&b, w[1])) {
+        Ok(l) => {
+            print_stage1(rt, l.stage1, w[6], w[7])?;
+            print_stage2(rt, l.stage2)?;
+            print_limits(rt, l.limits, l.forbidden)
+        }
+        Err(refusal) => println!(rt; "leaf refused {refusal}"),
     }
 }
 
 pub(crate) fn print_access(rt: &impl Print, n: u64) -> io::Result<()> {
-    let AccessRead::Read(a) = records::access::read_access(n) else {
-        return println!(rt; "access {n} unknown");
-    };
-    println!(rt;
-        "access {n} {} {}",
-        level_word(a.level),
-        right_word(a.right)
-    )
+    match read_access(n) {
+        Some(a) => println!(rt; "access {n} {} {}", a.level, a.right),
+        None => println!(rt; "access {n} unknown"),
+    }
 }

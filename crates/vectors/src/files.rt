@@ -1,17 +1,14 @@
 // Prints what the record layer reads of document 01's example as a map file, cut, made longer or with a byte changed, and how many lent
 // bytes changed.
 use crate::table::{Buffer, Case, front, record};
-use records::mapfile::FileRead;
+use records::mapfile::{read_file, setup_bytes};
 use std::io;
 
 // Reads a map file, with `leaves` lent for the leaves, and prints the answer and how many bytes the setup has; 0 for a refused file.
 fn print_read(rt: &impl Print, file: &[u8], leaves: &mut [u8]) -> io::Result<()> {
-    match records::mapfile::read_file(file, leaves) {
-        FileRead::Map(n) => {
-            let setup = records::mapfile::setup_bytes(file);
-            print!(rt; " map {n} setup bytes {}", setup.len())
-        }
-        FileRead::Refused(k) => print!(rt; " refused {k} setup bytes 0"),
+    match read_file(file, leaves) {
+        Ok(n) => print!(rt; " map {n} setup bytes {}", setup_bytes(file).len()),
+        Err(refusal) => print!(rt; " refused {refusal} setup bytes 0"),
     }
 }
 

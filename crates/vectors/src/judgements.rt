@@ -1,7 +1,7 @@
 // Prints the judgement of one access.
 use crate::table::{Case, LEAF, front, record, setup};
-use judge::answers::Judgement;
-use rights::answers::{Fault, Kind};
+use attributes::Memory;
+use rights::answers::{Fault, Kind, Stop};
 use std::io;
 
 // In place of Display, which the crate of the enum alone can give it.
@@ -18,11 +18,11 @@ fn print_fault(rt: &impl Print, f: Fault) -> io::Result<()> {
     println!(rt; " fault {} {} cause {}", f.stage, letter(f.kind), f.cause)
 }
 
-fn print_verdict(rt: &impl Print, j: Judgement) -> io::Result<()> {
+fn print_verdict(rt: &impl Print, j: Result<Memory, Stop>) -> io::Result<()> {
     match j {
-        Judgement::Allowed(m) => println!(rt; " allowed {} {}", m.byte, m.sh),
-        Judgement::Fault(f) => print_fault(rt, f),
-        Judgement::Refused(n) => println!(rt; " refused {n}"),
+        Ok(m) => println!(rt; " allowed {} {}", m.byte, m.sh),
+        Err(Stop::Faulted(f)) => print_fault(rt, f),
+        Err(Stop::Refused(refusal)) => println!(rt; " refused {refusal}"),
     }
 }
 

@@ -1,14 +1,13 @@
 // Prints what a list of leaves is answered: its rights by the list, and the register of a level by the planner.
 use crate::output::Bytes;
 use crate::table::{Case, LEAVES, front, record, setup};
-use judge::answers::Listed;
-use planner::plan::Plan;
+use records::refusal::LeafRefusal;
 use std::io;
 
-fn print_listed(rt: &impl Print, answer: Listed) -> io::Result<()> {
+fn print_listed(rt: &impl Print, answer: Result<usize, LeafRefusal>) -> io::Result<()> {
     match answer {
-        Listed::Done(n) => print!(rt; " done {n}"),
-        Listed::Refused { number, leaf } => print!(rt; " refused {number} leaf {leaf}"),
+        Ok(n) => print!(rt; " done {n}"),
+        Err(refusal) => print!(rt; " refused {refusal}"),
     }
 }
 
@@ -41,7 +40,7 @@ pub(crate) fn print_plan(rt: &impl Print, w: &Case) -> io::Result<()> {
     let s = setup(w);
     let l = record(&LEAVES, &w[11..]);
     match planner::plan_level(front(&s, w[1]), w[10], front(&l, w[9])) {
-        Plan::Register(r) => println!(rt; " {r:016x}"),
-        Plan::Refused { number, leaf } => println!(rt; " refused {number} leaf {leaf}"),
+        Ok(register) => println!(rt; " {register:016x}"),
+        Err(refusal) => println!(rt; " refused {refusal}"),
     }
 }

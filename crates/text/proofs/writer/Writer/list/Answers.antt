@@ -2,7 +2,7 @@
 use Rattle.text.proofs.Files.{done}
 use Rattle.text.proofs.writer.Writer.list.Goals as goal
 
-pub returns-in-Done : goal.returns-in-Done
-returns-in-Done c =
+pub returns-in-Ok : goal.returns-in-Ok
+returns-in-Ok c =
     let l = c.list_rights.ensures in
-    rw (done _ _ _ _ _ _ l.answer l.out c.in-Done.is) c.map.ensures
+    rw (done _ _ _ _ _ _ l.answer l.out c.in-Ok.is) c.map.ensures
