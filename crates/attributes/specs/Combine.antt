@@ -6,7 +6,6 @@ use Rattle.attributes.specs.StageTwoType.{mem_attr_of, device_code, outer_class,
 use Rattle.records.specs.declared.descriptor.Stage1.{Stage1}
 use Rattle.records.specs.declared.descriptor.Stage2.{Stage2}
 use Rattle.records.specs.declared.setup.Setup.{Setup}
-use Rattle.attributes.specs.declared.Memory.{Memory}
 
 -- any Device wins, and two Devices give the stricter (earlier): stage 1's byte b with stage 2's Device m
 abbrev pub with_device : ℕ → ℕ → ℕ

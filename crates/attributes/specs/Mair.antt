@@ -5,7 +5,6 @@ use Rattle.records.specs.Bits.{bit}
 use Rattle.records.specs.Setup.{byte_in}
 use Rattle.records.specs.declared.descriptor.Stage1.{Stage1}
 use Rattle.records.specs.declared.setup.Setup.{Setup}
-use Rattle.attributes.specs.declared.Memory.{Memory}
 
 -- a MAIR byte's outer nibble is high, its inner nibble low
 abbrev pub outer : ℕ → ℕ

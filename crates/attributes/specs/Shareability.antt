@@ -6,7 +6,6 @@ use Rattle.attributes.specs.Combine.{result_byte}
 use Rattle.records.specs.declared.descriptor.Stage1.{Stage1}
 use Rattle.records.specs.declared.descriptor.Stage2.{Stage2}
 use Rattle.records.specs.declared.setup.Setup.{Setup}
-use Rattle.attributes.specs.declared.Memory.{Memory}
 
 -- refusal 9: SH, which has two bits, is 01 in a stage that is on, whatever its memory type
 unfoldable pub reserved_sh : Setup → Stage1 → Stage2 → Bool

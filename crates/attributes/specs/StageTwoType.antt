@@ -4,7 +4,6 @@ use Rattle.std.specs.Prelude.{ℕ, ◌/◌, ◌%◌, Bool, cond, ◌&&◌, ◌||
 use Rattle.records.specs.Bits.{bit}
 use Rattle.records.specs.declared.descriptor.Stage2.{Stage2}
 use Rattle.records.specs.declared.setup.Setup.{Setup}
-use Rattle.attributes.specs.declared.Memory.{Memory}
 
 -- MemAttr has four bits
 unfoldable pub mem_attr_of : Stage2 → ℕ

@@ -17,7 +17,7 @@ use Rattle.records.specs.declared.setup.Setup.{Setup}
 use Rattle.rights.specs.Checks.{setup_check}
 use Rattle.judge.specs.Demands.{ListDemands}
 use Rattle.judge.specs.LeafRights.{leaf_rights}
-use Rattle.judge.specs.List.{Walk, bytes, refused, walk, cause_at, causes_of, ListResult, finish, leaves_of, list_read, list_of}
+use Rattle.judge.specs.List.{Walk, bytes, refused, walk, cause_at, causes_of, finish, leaves_of, list_read, list_of}
 use Rattle.judge.specs.Mirror.Walked.{listed_of}
 use Rattle.judge.specs.Mirror.Words.{rights_in, cause_in, word_at, mark_at, clear, Found}
 use Rattle.judge.proofs.Bits.{walked}

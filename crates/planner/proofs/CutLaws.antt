@@ -13,8 +13,7 @@ use Rattle.records.specs.Bits.{bit}
 use Rattle.planner.specs.Register.{cut_mask}
 use Rattle.planner.specs.Plan.{cut_by, cuts, uncured, first_uncured}
 use Rattle.planner.proofs.Bits.{cut_low, cut-bit}
-use Rattle.std.specs.Prelude.{Result, Ok, Err}
-use Rattle.records.specs.declared.refusal.Refusal.{Refusal}
+use Rattle.std.specs.Prelude.{Ok, Err}
 use Rattle.planner.specs.Plan.{LeafPlan}
 
 -- eight masks of three bits

@@ -21,7 +21,6 @@ use Rattle.records.specs.Access.{has_right}
 use Rattle.records.specs.declared.access.LevelRights.{LevelRights}
 use Rattle.planner.specs.Register.{slot_bit}
 use Rattle.planner.proofs.Bits.{nought-slot}
-use Rattle.records.specs.declared.refusal.Refusal.{Refusal}
 use Rattle.std.specs.Prelude.{Ok}
 
 -- one right of the rights with slot v

@@ -30,8 +30,7 @@ use Rattle.planner.proofs.Leaves.{Ranged, ranged, leaf-low}
 use Rattle.planner.proofs.Packing.{pack-slot, pack-lt-32}
 use Rattle.planner.proofs.Promise.{allowed-is, bare-within}
 use Rattle.planner.proofs.StartLaws.{accepted-starts}
-use Rattle.std.specs.Prelude.{Result, Ok, Err}
-use Rattle.records.specs.declared.refusal.Refusal.{Refusal}
+use Rattle.std.specs.Prelude.{Ok, Err}
 use Rattle.records.specs.declared.refusal.Refusal.TheVariants.{NotSeparable}
 use Rattle.records.proofs.CheckLaws.{same-refusal}
 use Rattle.records.specs.Values.{on_leaf}

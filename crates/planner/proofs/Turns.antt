@@ -1,20 +1,17 @@
 -- A turn of the loop over the leaves, in each of the plan's definitions, and their ends. Assumes nothing.
 use Rattle.records.proofs.Cases.{clash}
-use mathlib.Core.Path.{◌≡◌, refl, sym, ◌∙◌}
+use mathlib.Core.Path.{◌≡◌, refl}
 use mathlib.Core.List.{List}
 use mathlib.Core.Bool.{Bool, true, false, cond}
 use Prim.Native.Nat.{ℕ, suc, ◌+◌, ◌-◌, ◌≤◌, ◌<◌}
 use native.Mathlib.Omega.{arith}
-use native.Mathlib.Nat.{sub-zero}
 use native.Mathlib.Numerals.{add-one}
-use lib.Dec.{eqb}
 use lib.ListN.{replicate}
-use borrow.Author.Tests.{lt-ltb, le-ltb, eq-eqb, ne_eqb, eqb-true}
+use borrow.Author.Tests.{lt-ltb, le-ltb}
 use Rattle.planner.specs.Register.{pack_from}
 use Rattle.planner.specs.Plan.{or_refused, cut_by, uncured, refused_from, first_uncured, cuts, register_for, settled}
 use Rattle.planner.specs.Mirror.Masks.{first_of, found_or}
-use Rattle.std.specs.Prelude.{Result, Ok, Err, Option, Some, None}
-use Rattle.records.specs.declared.refusal.Refusal.{Refusal}
+use Rattle.std.specs.Prelude.{Ok, Err, Option, Some, None}
 use Rattle.records.specs.declared.refusal.Refusal.TheVariants.{NotSeparable}
 use Rattle.records.specs.Values.{on_leaf}
 use Rattle.planner.specs.Plan.{Plan}

@@ -19,7 +19,7 @@ use Rattle.planner.specs.declared.cut.Cut.{Cut}
 use Rattle.records.specs.declared.refusal.LeafRefusal.{LeafRefusal}
 use Rattle.records.specs.declared.setup.PerLevel.{PerLevel}
 use Rattle.records.specs.declared.refusal.Refusal.{Refusal}
-use Rattle.records.specs.declared.refusal.Refusal.TheVariants.{UnknownAccess, NotSeparable, ListLength, OverlayOff, IllFormed}
+use Rattle.records.specs.declared.refusal.Refusal.TheVariants.{NotSeparable, ListLength, OverlayOff}
 use Rattle.records.specs.Values.{on_leaf}
 use Rattle.records.specs.declared.leaf.Leaf.{Leaf}
 

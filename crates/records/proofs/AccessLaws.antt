@@ -1,9 +1,9 @@
 -- What an access number that was read tells. Assumes nothing.
-use Rattle.records.proofs.Cases.{clash, at}
+use Rattle.records.proofs.Cases.{clash}
 use mathlib.Core.Path.{◌≡◌, refl}
-use mathlib.Core.Bool.{Bool, true, false, cond}
-use Prim.Native.Nat.{ℕ, ◌%◌, ◌≤◌, ◌<◌}
-use lib.Dec.{eqb, leb, ltb}
+use mathlib.Core.Bool.{Bool, true, false}
+use Prim.Native.Nat.{ℕ, ◌≤◌, ◌<◌}
+use lib.Dec.{leb}
 use borrow.Author.Tests.{leb-true, leb-false}
 use Rattle.records.specs.Access.{access_at, read_access}
 use Rattle.records.specs.declared.access.Access.{Access}

@@ -1,5 +1,5 @@
 -- Document 01, 'Setup and leaf records', first paragraph: a setup of 52 bytes. Assumes nothing.
-use Rattle.std.specs.Prelude.{ℕ, ◌*◌, ◌%◌, ◌^◌, List, Bool, cond, eqb, leb, length, Result, Ok, Err}
+use Rattle.std.specs.Prelude.{ℕ, ◌*◌, ◌%◌, ◌^◌, List, cond, eqb, leb, length, Result, Ok, Err}
 use Rattle.records.specs.Bits.{bit, field}
 use Rattle.records.specs.Bytes.{le32, le64}
 use Rattle.records.specs.declared.access.Level.{Level}

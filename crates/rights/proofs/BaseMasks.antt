@@ -21,8 +21,6 @@ use Rattle.rights.specs.Mirror.Base.{indirect_step}
 use Rattle.rights.specs.Mirror.BaseMasks.{base_mask, keep, descriptor_table, limits_table, level_place, descriptor_left, limits_left, descriptor_place, removed, codes, upper_bits, pair_mask}
 use Rattle.rights.specs.Steps.{Step, step, fixed, everything, left_after}
 use Rattle.records.specs.declared.access.Rights.{Rights}
-use Rattle.std.specs.Prelude.{Result}
-use Rattle.records.specs.declared.refusal.Refusal.{Refusal}
 use Rattle.rights.specs.Mirror.BaseMasks.{Mask}
 
 abbrev pick : List ℕ → ℕ → ℕ

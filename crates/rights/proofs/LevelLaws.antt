@@ -3,7 +3,6 @@
 use Rattle.records.proofs.Cases.{clash}
 use mathlib.Core.Logic.{◌⊎◌, inl, inr}
 use mathlib.Core.Path.{◌≡◌, ap}
-use Prim.Native.Nat.{ℕ}
 use Rattle.records.specs.Access.{access_of, three, has_right}
 use Rattle.records.specs.declared.access.Level.{Level}
 use Rattle.records.specs.declared.access.Right.{Right}

@@ -1,8 +1,7 @@
 -- The refusal of a level that the planner asks for is the first that an access of the level meets with 77777777 in place, and it is 6 or 7. Assumes
 -- nothing.
 use mathlib.Core.Path.{◌≡◌, refl, sym, ap, ◌∙◌}
-use Prim.Native.Nat.{ℕ, ◌≤◌}
-use native.Mathlib.Omega.{arith}
+use Prim.Native.Nat.{◌≤◌}
 use Rattle.records.proofs.Cases.{clash}
 use Rattle.records.specs.Access.{access_of}
 use Rattle.records.specs.Descriptor.{place_of, stage1_of, stage2_of, limits_of}

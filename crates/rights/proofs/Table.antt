@@ -1,28 +1,22 @@
 -- A setup's table gives what stage 1 gives. Assumes nothing.
 use Rattle.records.proofs.Cases.{clash}
-use mathlib.Core.Path.{◌≡◌, refl, sym, ap, ap₂, ◌∙◌}
-use mathlib.Core.Bool.{Bool, true, false, cond, not, ◌&&◌, ◌||◌}
-use mathlib.Core.List.{List}
-use Prim.Native.Nat.{ℕ, ◌+◌, ◌*◌, ◌/◌, ◌%◌, ◌^◌, ◌<◌}
-use native.Mathlib.Nat.{mod-eq_of_lt}
+use mathlib.Core.Path.{◌≡◌, refl, sym, ap, ◌∙◌}
+use mathlib.Core.Bool.{Bool, true, false, cond, ◌&&◌}
+use Prim.Native.Nat.{ℕ, ◌%◌, ◌<◌}
 use native.Mathlib.Omega.{arith}
-use lib.Bits.{bit_and, bit_or, and_mod}
-use lib.Dec.{ltb}
+use lib.Bits.{bit_or}
 use lib.ListN.{get_or}
-use borrow.Author.Tests.{lt-ltb, ltb-true}
 use Rattle.records.specs.Bits.{bit, nibble}
 use Rattle.records.specs.Descriptor.{stage1_of, stage2_of, limits_of, pi_index, code_place, po_index, place_of}
-use Rattle.records.proofs.Cases.{at}
 use Rattle.records.specs.Setup.{control_of, setup_from, of_level}
 use Rattle.records.specs.declared.access.Level.{Level}
 use Rattle.records.specs.declared.setup.Words.{Words}
 use Rattle.rights.proofs.BaseMasks.{direct-left}
-use Rattle.rights.specs.Mirror.Base.{base_of, indirect_step, granted, indirect_of, BaseAnswer}
+use Rattle.rights.specs.Mirror.Base.{base_of, indirect_step, indirect_of}
 use Rattle.rights.specs.Direct.{direct_of}
 use Rattle.rights.specs.Indirect.{code_of}
 use Rattle.records.specs.Access.{six_mask}
-use Rattle.rights.specs.Mirror.BaseMasks.{base_mask, keep, descriptor_table, limits_table, level_place, level_part, descriptor_left, limits_left, descriptor_place, removed}
-use Rattle.rights.specs.declared.indirect.Code.{Code}
+use Rattle.rights.specs.Mirror.BaseMasks.{descriptor_place}
 use Rattle.rights.specs.Promise.{range_of, range_mask}
 use Rattle.rights.specs.Mirror.Masks.{setup_with, stage1_mask, stage2_mask, mask_with, range_with}
 use Rattle.rights.specs.Mirror.Pass.{stage1_pass, stage2_pass}
@@ -30,7 +24,7 @@ use Rattle.rights.specs.Mirror.Table.{pair_at, TableOf, direct_by, stage1_by, fu
 use Rattle.rights.specs.declared.pass.table.BaseTable.{BaseTable}
 use Rattle.rights.specs.declared.promise.RangeMask.{RangeMask}
 use Rattle.records.specs.declared.refusal.Refusal.TheVariants.{Unjudged}
-use Rattle.rights.proofs.Masks.{base-small, six-small, from-base, stage1-direct, range-masks}
+use Rattle.rights.proofs.Masks.{from-base, stage1-direct, range-masks}
 use Rattle.std.specs.Prelude.{Result, Ok, Err}
 use Rattle.records.specs.declared.refusal.Refusal.{Refusal}
 use Rattle.rights.specs.Mirror.BaseMasks.{Mask}

@@ -1,21 +1,15 @@
 -- What the list and the planner answer can be packed. Assumes nothing.
-use mathlib.Core.Path.{◌≡◌, sym, ap, ◌∙◌}
+use mathlib.Core.Path.{◌≡◌}
 use mathlib.Core.Logic.{inl, inr}
 use mathlib.Core.List.{List}
 use Prim.Native.Nat.{ℕ, ◌^◌, ◌<◌}
 use native.Mathlib.Omega.{arith}
-use Rattle.records.specs.Bits.{field}
 use Rattle.records.specs.Values.{Values}
 use Rattle.judge.proofs.Bounds as list
 use Rattle.judge.specs.Answers.{list_values}
-use Rattle.judge.specs.Demands.{ListDemands}
 use Rattle.judge.specs.List.{list_of}
 use Rattle.planner.proofs.Bounds as plan
-use Rattle.planner.specs.Demands.{PlannerDemands}
 use Rattle.planner.specs.Plan.{plan_values, plan_of}
-use Rattle.sonsiplex.specs.Packing.{pack_numbers, pack_list, list_fields, pack_plan, plan_fields}
-use Rattle.std.specs.Prelude.{Ok, Err}
-use Rattle.records.specs.Values.{on_leaf}
 use Rattle.judge.specs.Answers.{Listed}
 use Rattle.planner.specs.Plan.{Plan}
 

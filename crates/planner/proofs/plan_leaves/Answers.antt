@@ -1,6 +1,6 @@
 -- A turn of the loop takes a leaf's plan from what is left; at its end nothing is left.
 use Rattle.std.proofs.Common.{◌≡◌, ◌+◌, ◌-◌, ◌*◌, ◌/◌, ℕ, ◌<◌, Bool, List, length, take, drop, sym, ap, ◌∙◌, subst, arith}
-use Rattle.std.specs.Prelude.{get_or, set, replicate, Ok, Option, Some, None}
+use Rattle.std.specs.Prelude.{get_or, set, replicate, Ok, Option}
 use native.Mathlib.Nat.{le_antisymm, add-sub_cancel_left}
 use Rattle.records.specs.declared.access.Level.{Level}
 use Rattle.rights.specs.declared.pass.table.BaseTable.{BaseTable}

@@ -4,7 +4,6 @@ use Rattle.std.specs.Prelude.{replicate}
 use Rattle.planner.specs.Mirror.Masks.{plans_by, found_or}
 use Rattle.planner.specs.Plan.{refused_from, first_uncured, cuts, settled, in_order}
 use Rattle.planner.proofs.plan_leaves.Given as goal
-use Rattle.planner.specs.Plan.{cut}
 
 abbrev pub invariant-loop-i : goal.invariant-loop-i
 invariant-loop-i l =

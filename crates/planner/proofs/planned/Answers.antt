@@ -1,7 +1,7 @@
 -- The answer is the checks' refusal or what the leaves give.
 use Rattle.std.proofs.Common.{rules, ◌≡◌, ℕ, List, length, sym, ap, ◌∙◌}
-use Rattle.std.specs.Prelude.{Result, Ok, Err}
-use Rattle.records.proofs.SetupWords.{as_setup, setup-read}
+use Rattle.std.specs.Prelude.{Result, Ok}
+use Rattle.records.proofs.SetupWords.{setup-read}
 use Rattle.records.specs.Setup.{control_of, setup_from, read_words}
 use Rattle.records.specs.declared.access.Level.{Level}
 use Rattle.records.specs.declared.refusal.Refusal.{Refusal}

@@ -10,7 +10,6 @@ use Rattle.rights.specs.Checks.{leaf_check}
 use Rattle.rights.specs.Mirror.Table.{range_by}
 use Rattle.rights.specs.Promise.{slot_of}
 use Rattle.records.specs.declared.refusal.Refusal.{Refusal}
-use Rattle.records.specs.declared.refusal.Refusal.TheVariants.{IllFormed}
 use Rattle.records.specs.declared.leaf.Leaf.{Leaf}
 use Rattle.rights.specs.declared.pass.table.BaseTable.{BaseTable}
 use Rattle.rights.specs.declared.promise.RangeMask.{RangeMask}

@@ -11,7 +11,6 @@ use Rattle.records.specs.declared.setup.Setup.{Setup}
 use Rattle.rights.specs.Mirror.BaseMasks.{base_mask}
 use Rattle.rights.specs.Promise.{LevelAnswer, slot_of}
 use Rattle.rights.specs.Mirror.Pass.{Stage1Pass, Stage2Pass}
-use Rattle.rights.specs.Mirror.Base.{BaseAnswer}
 use Rattle.records.specs.declared.refusal.Refusal.{Refusal}
 use Rattle.records.specs.declared.refusal.Refusal.TheVariants.{ReservedCode}
 use Rattle.rights.specs.Mirror.BaseMasks.{Mask}

@@ -1,6 +1,6 @@
 -- Tables that a setup decides once, by which stage 1 of a leaf is known up to the overlay. Nothing here needs to be believed: the laws
 -- `with-table` and `range-by` of proofs/Table say that it gives what Pass and Promise have. Assumes nothing.
-use Rattle.std.specs.Prelude.{ℕ, ◌+◌, ◌*◌, ◌/◌, ◌%◌, ◌^◌, ◌<◌, ◌≡◌, Bool, cond, ◌&&◌, List, ltb, get_or, Result, Ok, Err}
+use Rattle.std.specs.Prelude.{ℕ, ◌%◌, ◌<◌, ◌≡◌, Bool, cond, ◌&&◌, get_or, Result, Ok, Err}
 use Rattle.std.specs.Int.Bits.{bit_and, bit_or}
 use Rattle.records.specs.Bits.{bit, nibble}
 use Rattle.records.specs.Descriptor.{stage2_of, pi_index, entry_of, po_index, place_of}

@@ -1,5 +1,5 @@
 -- The answer is that of the leaves from `i` on.
-use Rattle.std.proofs.Common.{◌≡◌, ℕ, ◌-◌}
+use Rattle.std.proofs.Common.{◌≡◌, ℕ}
 use Rattle.records.specs.Leaf.{leaf_at}
 use Rattle.judge.specs.LeafRights.{leaf_rights}
 use Rattle.judge.specs.List.{walk}

@@ -1,5 +1,5 @@
 -- The refusal of the leaf is that of its accesses from `a` on.
-use Rattle.std.proofs.Common.{◌≡◌, ◌-◌, length}
+use Rattle.std.proofs.Common.{◌≡◌, length}
 use Rattle.judge.specs.LeafRights.{judged_accesses, leaf_rights}
 use Rattle.judge.specs.Mirror.Walked.{refusal_in}
 use Rattle.judge.proofs.Refusals.{refusal_from}
