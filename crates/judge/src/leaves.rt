@@ -8,29 +8,46 @@ ghost use Rattle.judge.specs.List.{leaves_of};
 ghost use Rattle.judge.specs.Mirror.Words.{clear, Found};
 
 use crate::answers::Listed;
+use crate::fields::Fields;
 use crate::fill::fill;
-use crate::groups::long_list;
+use crate::groups::Groups;
 use crate::walk::first_refusal;
-use attributes::known::memory_table;
+use attributes::known::refused_memory;
 use records::setup::Setup;
-use rights::words::tables::{base_words, slot_words, stage_words};
+use rights::words::groups::{DirectGroups, IndirectGroups, OffGroups, stage2_groups};
 
 // The most leaves of a short list, which has short buffers and is judged by single fields. Tables of groups pay from about 75 leaves on.
 pub(crate) const SHORT: usize = 64;
 
-// The rights and causes of `n` leaves. The answer is 0 exactly where no leaf is marked.
-fn fill_list(s: Setup, leaves: &[u8], n: usize, rights: &mut [u8], found: &mut [u8]) -> u64
-    requires { (n * 18 ≤ length leaves.now) × (n ≤ length rights.old) × (6 * n + 2 ≤ length found.old) }
-    ensures { (eqb result 0 ≡ clear s leaves.now n) × Found s leaves.now n rights.new found.new }
+// The rights and causes of a long list. The answer is 0 exactly where no leaf is marked.
+fn long_list(setup: Setup, leaves: &[u8], rights: &mut [u8], found: &mut [u8]) -> u64
+    requires { (leaf_count leaves.now ≤ length rights.old) × (6 * leaf_count leaves.now + 2 ≤ length found.old) }
+    ensures { (eqb result 0 ≡ clear setup leaves.now (leaf_count leaves.now)) × Found setup leaves.now (leaf_count leaves.now) rights.new found.new }
 {
-    let base = base_words(s.control.indirect, s.control.two);
-    let slots = slot_words();
-    let stages = stage_words();
-    let memory = memory_table(s.control, s.mair, s.mair2);
-    if SHORT < n {
-        return long_list(s, &base, &slots, &stages, &memory, leaves, n, rights, found);
+    let c = setup.control;
+    let memory = refused_memory(c, setup.mair, setup.mair2);
+    let second = &stage2_groups(c.stage2, &memory.stage2);
+    if c.stage1 {
+        if c.indirect {
+            let first = &IndirectGroups::of(setup, &memory.stage1);
+            return fill(&Groups { setup: &setup, first, second }, leaves, rights, found);
+        }
+        let first = &DirectGroups::of(setup, &memory.stage1);
+        return fill(&Groups { setup: &setup, first, second }, leaves, rights, found);
     }
-    fill(s, &base, &slots, &stages, &memory, leaves, n, rights, found)
+    let first = &OffGroups::of(c.two);
+    fill(&Groups { setup: &setup, first, second }, leaves, rights, found)
+}
+
+// The same of any list.
+fn fill_list(setup: Setup, leaves: &[u8], rights: &mut [u8], found: &mut [u8]) -> u64
+    requires { (leaf_count leaves.now ≤ length rights.old) × (6 * leaf_count leaves.now + 2 ≤ length found.old) }
+    ensures { (eqb result 0 ≡ clear setup leaves.now (leaf_count leaves.now)) × Found setup leaves.now (leaf_count leaves.now) rights.new found.new }
+{
+    if SHORT < leaves.len() / 18 {
+        return long_list(setup, leaves, rights, found);
+    }
+    fill(&Fields::of(setup), leaves, rights, found)
 }
 
 // Rights and causes go to `out` and `causes` by way of `rights` and `found`.
@@ -50,7 +67,7 @@ pub(crate) fn list_leaves(
     ensures causes { causes.new ≡ (leaves_of s leaves.now out.old causes.old).causes }
 {
     let n = leaves.len() / 18;
-    let marks = fill_list(s, leaves, n, rights, found);
+    let marks = fill_list(s, leaves, rights, found);
     let marked = marks != 0;
     if marked {
         return first_refusal(s, leaves, n);

@@ -5,6 +5,7 @@
 
 pub mod access;
 pub mod answers;
+mod fields;
 mod fill;
 mod groups;
 mod leaves;
