@@ -1,29 +1,52 @@
 // The words of leaves by groups of fields, for long lists: the tables of the groups are made first.
-ghost use Rattle.std.specs.Prelude.{◌≡◌, false, true};
+ghost use Rattle.std.specs.Prelude.{◌≡◌};
 ghost use Rattle.attributes.specs.Mirror.Known.{IsRefused};
-ghost use Rattle.rights.specs.Mirror.Groups.{IsStage2If, IsDirect, IsIndirect};
+ghost use Rattle.rights.specs.Mirror.Groups.{IsStage2If};
 ghost use Rattle.judge.specs.Mirror.Words.{groups_at, Gives};
 
 use crate::fill::{LeafWord, Words};
+use attributes::known::{Refused, refused_memory};
 use records::descriptor::places::leaf_places;
 use records::setup::Setup;
-use rights::words::groups::{Stage1Groups, Stage2Groups, stage2_grouped};
+use rights::words::groups::{Stage1Groups, Stage2Groups, stage2_grouped, stage2_groups};
 
-// A setup, with the groups of stage 1 in its mode and of stage 2 where it is on.
+// What a setup decides whatever stage 1's mode is: what it refuses of memory, and the groups of stage 2, where it is on.
+#[derive(Drop)]
+pub(crate) struct Second {
+    pub setup: Setup,
+    pub memory: Refused,
+    pub groups: Option<Stage2Groups>,
+    ghost refused: { IsRefused setup.control setup.mair setup.mair2 memory },
+    ghost made: { IsStage2If memory.stage2 setup.control.stage2 groups },
+}
+
+impl Second {
+    pub(crate) fn of(setup: Setup) -> Second
+        ensures { result.setup ≡ setup }
+    {
+        let memory = refused_memory(setup.control, setup.mair, setup.mair2);
+        Second {
+            setup,
+            memory,
+            groups: stage2_groups(setup.control.stage2, &memory.stage2),
+        }
+    }
+}
+
+// The same with stage 1 in its mode.
 #[derive(Drop)]
 pub(crate) struct Groups<'a, F: Stage1Groups> {
-    pub setup: &'a Setup,
     pub first: &'a F,
-    pub second: &'a Option<Stage2Groups>,
-    ghost gives: { Gives setup.now (groups_at (F.number first.now) second.now) },
+    pub second: &'a Second,
+    ghost gives: { Gives second.now.setup (groups_at (F.number first.now) second.now.groups) },
 }
 
 impl<'a, F: Stage1Groups> Words for Groups<'a, F> {
-    ghost setup_of = { λ s. s.setup.now };
+    ghost setup_of = { λ s. s.second.now.setup };
 
     fn leaf(&self, leaves: &[u8], i: usize) -> LeafWord {
         let f = leaf_places(leaves, i);
-        let left = stage2_grouped(self.second, f.stage2);
+        let left = stage2_grouped(&self.second.groups, f.stage2);
         LeafWord {
             word: self.first.word(f.stage1, f.limits, left),
             limits: f.limits,

@@ -1,6 +1,6 @@
 // The leaves of an accepted list, by way of two buffers that hold their rights and causes until it is known that no leaf is refused. The list that has a refused
 // leaf is walked again by the judge's own function.
-ghost use Rattle.std.specs.Prelude.{◌≡◌, ◌+◌, ◌*◌, ◌≤◌, eqb, length};
+ghost use Rattle.std.specs.Prelude.{◌≡◌, ◌+◌, ◌*◌, ◌≤◌, true, false, eqb, length};
 ghost use Rattle.records.specs.Leaf.{leaf_count};
 ghost use Rattle.records.specs.declared.check.Check.TheVariants.{Passes};
 ghost use Rattle.rights.specs.Checks.{setup_check};
@@ -10,33 +10,48 @@ ghost use Rattle.judge.specs.Mirror.Words.{clear, Found};
 use crate::answers::Listed;
 use crate::fields::Fields;
 use crate::fill::fill;
-use crate::groups::Groups;
+use crate::groups::{Groups, Second};
 use crate::walk::first_refusal;
-use attributes::known::refused_memory;
 use records::setup::Setup;
-use rights::words::groups::{DirectGroups, IndirectGroups, OffGroups, stage2_groups};
+use rights::words::groups::{DirectGroups, IndirectGroups, OffGroups};
 
 // The most leaves of a short list, which has short buffers and is judged by single fields. Tables of groups pay from about 75 leaves on.
 pub(crate) const SHORT: usize = 64;
 
-// The rights and causes of a long list. The answer is 0 exactly where no leaf is marked.
+// The rights and causes of a long list with stage 1 under Direct. The answer is 0 exactly where no leaf is marked.
+fn direct_list(second: &Second, leaves: &[u8], rights: &mut [u8], found: &mut [u8]) -> u64
+    requires room { (leaf_count leaves.now ≤ length rights.old) × (6 * leaf_count leaves.now + 2 ≤ length found.old) }
+    requires mode { (second.now.setup.control.stage1 ≡ true) × (second.now.setup.control.indirect ≡ false) }
+    ensures { (eqb result 0 ≡ clear second.now.setup leaves.now (leaf_count leaves.now)) × Found second.now.setup leaves.now (leaf_count leaves.now) rights.new found.new }
+{
+    let first = &DirectGroups::of(second.setup, &second.memory.stage1);
+    fill(&Groups { first, second }, leaves, rights, found)
+}
+
+// The same under Indirect.
+fn indirect_list(second: &Second, leaves: &[u8], rights: &mut [u8], found: &mut [u8]) -> u64
+    requires room { (leaf_count leaves.now ≤ length rights.old) × (6 * leaf_count leaves.now + 2 ≤ length found.old) }
+    requires mode { (second.now.setup.control.stage1 ≡ true) × (second.now.setup.control.indirect ≡ true) }
+    ensures { (eqb result 0 ≡ clear second.now.setup leaves.now (leaf_count leaves.now)) × Found second.now.setup leaves.now (leaf_count leaves.now) rights.new found.new }
+{
+    let first = &IndirectGroups::of(second.setup, &second.memory.stage1);
+    fill(&Groups { first, second }, leaves, rights, found)
+}
+
+// The same in any mode.
 fn long_list(setup: Setup, leaves: &[u8], rights: &mut [u8], found: &mut [u8]) -> u64
     requires { (leaf_count leaves.now ≤ length rights.old) × (6 * leaf_count leaves.now + 2 ≤ length found.old) }
     ensures { (eqb result 0 ≡ clear setup leaves.now (leaf_count leaves.now)) × Found setup leaves.now (leaf_count leaves.now) rights.new found.new }
 {
-    let c = setup.control;
-    let memory = refused_memory(c, setup.mair, setup.mair2);
-    let second = &stage2_groups(c.stage2, &memory.stage2);
-    if c.stage1 {
-        if c.indirect {
-            let first = &IndirectGroups::of(setup, &memory.stage1);
-            return fill(&Groups { setup: &setup, first, second }, leaves, rights, found);
+    let second = &Second::of(setup);
+    if setup.control.stage1 {
+        if setup.control.indirect {
+            return indirect_list(second, leaves, rights, found);
         }
-        let first = &DirectGroups::of(setup, &memory.stage1);
-        return fill(&Groups { setup: &setup, first, second }, leaves, rights, found);
+        return direct_list(second, leaves, rights, found);
     }
-    let first = &OffGroups::of(c.two);
-    fill(&Groups { setup: &setup, first, second }, leaves, rights, found)
+    let first = &OffGroups::of(setup.control.two);
+    fill(&Groups { first, second }, leaves, rights, found)
 }
 
 // The same of any list.

@@ -11,11 +11,12 @@ use Rattle.records.specs.Access.{access_of}
 use Rattle.records.specs.declared.access.Level.TheVariants.{Privileged, Unprivileged}
 use Rattle.records.specs.declared.access.Right.TheVariants.{Read, Write}
 use Rattle.rights.specs.Direct.{ap as ap_of}
-use Rattle.rights.specs.Mirror.Groups.{before, masked, known_mask, levels_mask, Grouped}
-use Rattle.rights.specs.Mirror.Parts.{after, pair_at, join_at, all_mask, one_mask, unknown_mask, state_part, stage2_part, descriptor_part, last_part, direct_word, one_part, known_part, known_number}
+use Rattle.rights.specs.Mirror.Groups.{before, masked, known_mask, levels_mask, join_in, Grouped}
+use Rattle.rights.specs.Mirror.Parts.{after, pair_at, all_mask, one_mask, unknown_mask, state_part, stage2_part, descriptor_part, last_part, direct_word, one_part, known_part, known_number}
 use Rattle.rights.specs.Mirror.Words.{Word, Part, joined, number_of, keep_of, take_of, pair_of, pairs}
 use Rattle.rights.specs.Stage2.{xn_px, xn_ux}
 use Rattle.rights.specs.declared.words.pair.Pair.{Pair}
+use Rattle.rights.specs.declared.words.pair.Table.{Table}
 use Rattle.rights.proofs.Joins.{join-law, pair-law, entry}
 use Rattle.rights.proofs.WordNumbers.{mask-law, known-number, one-keeps, one-takes, unknown-keeps, known-takes}
 
@@ -32,7 +33,7 @@ masked-after m p n =
     ap (bit_or (bit_and m p.takes)) (sym (and-and m p.keeps n)) ∙ sym (and-or m p.takes (bit_and p.keeps n))
 
 -- an entry of a group's table
-pub group-law : (n : ℕ) (f : ℕ → Pair) (g : List Pair) → Grouped n f g → (k w : ℕ) → k < n → join_at g k w ≡ after (f k) w
+pub group-law : (n : ℕ) (f : ℕ → Pair) (g : Table n) → Grouped n f g → (k w : ℕ) → k < n → join_in g k w ≡ after (f k) w
 group-law n f g h k w i = ap (λ (p : Pair). after p w) (h k i)
 
 -- a number is that of a word whose memory is known as k

@@ -23,7 +23,7 @@ use Rattle.records.specs.declared.descriptor.fields.ByMemory.{ByMemory}
 use Rattle.records.specs.declared.leaf.Leaf.{Leaf}
 use Rattle.records.specs.declared.setup.Control.{Control}
 use Rattle.records.specs.declared.setup.Setup.{Setup}
-use Rattle.rights.specs.Mirror.Groups.{before, masked, known_mask, levels_mask, state_at, low_pair, s2ap_word, slots_pair, Grouped, SlotsGrouped, part_of, overlaid, IsStage2, IsStage2If, IsDirect, IsIndirect, stage2_grouped, slots_grouped, direct_grouped, indirect_grouped}
+use Rattle.rights.specs.Mirror.Groups.{before, masked, known_mask, levels_mask, state_at, low_pair, s2ap_word, slots_pair, join_in, Grouped, SlotsGrouped, part_of, overlaid, IsStage2, IsStage2If, IsDirect, IsIndirect, stage2_grouped, slots_grouped, direct_grouped, indirect_grouped}
 use Rattle.rights.specs.Mirror.Groups as groups
 use Rattle.rights.specs.Mirror.Parts.{state_part, stage2_part, descriptor_part, last_part, slot_part, stage2_at, last_at, descriptor_at, limits_at, code_part_at, after, pair_at, join_at}
 use Rattle.rights.specs.Mirror.Parts.{state1_words, state2_words, permissions2_words, last_words, slot_words, code_words, descriptor_words}
@@ -35,6 +35,7 @@ use Rattle.rights.specs.declared.words.groups.DirectGroups.{DirectGroups}
 use Rattle.rights.specs.declared.words.groups.IndirectGroups.{IndirectGroups}
 use Rattle.rights.specs.declared.words.groups.Stage2Groups.{Stage2Groups}
 use Rattle.rights.specs.declared.words.pair.Pair.{Pair}
+use Rattle.rights.specs.declared.words.pair.Table.{Table}
 use Rattle.rights.proofs.GroupLaws.{before-after, group-law, Is, same_word, behind, through, same_number, Of, entry_of, step, two_steps, known_step, levels-step, state-apart, direct-apart, stage2-apart}
 use Rattle.rights.proofs.Joins.{join-at}
 use Rattle.rights.proofs.WordNumbers.{whole-number, direct-number, slot-low, code-low, off-number, levels-number}
@@ -103,7 +104,7 @@ module _ (m : ByMemory) (g : Stage2Groups) (hg : IsStage2 m g) (e : ℕ) where
       hg.s2ap i0 (omega arith)
       ∙ s2ap-is i0 (omega arith) ∙ ap (λ (q : Part). number_of (joined q whole)) (s2ap-part i0 (omega arith) ∙ ap₂ (λ (r w : Bool). stage2_part r w 0) b.0 b.1) ∙ sym (same_number last) in
       let i1 = p.never % 16 in
-      let n1 = join_at g.never i1 n0 in
+      let n1 = join_in g.never i1 n0 in
       let w1 = joined (stage2_part true true x) last in
       let s1 = state_part 13 14 true true true (bit e 51) in
       let h1 : Is n1 true (joined s1 w1) =
@@ -111,7 +112,7 @@ module _ (m : ByMemory) (g : Stage2Groups) (hg : IsStage2 m g) (e : ℕ) where
       ∙ two_steps (state_at state2_words 1 1 (i1 % 2)) (pair_at permissions2_words (3 + i1 / 4 * 4)) s1 (stage2_part true true x)
       (state2-of 1 1 (i1 % 2) true true (bit e 51) refl refl v.0) (rw v.1 (xn-of x (omega arith))) n0 true last h0 in
       let i2 = p.flags % 8 in
-      let n2 = join_at g.flags i2 n1 in
+      let n2 = join_in g.flags i2 n1 in
       let s2 = state_part 13 14 true true (bit e 10) false in
       let w2 = joined s2 (joined s1 w1) in
       let r2 = get_or m.sh (i2 % 4) false in
@@ -121,7 +122,7 @@ module _ (m : ByMemory) (g : Stage2Groups) (hg : IsStage2 m g) (e : ℕ) where
       group-law 8 _ g.flags hg.flags i2 n1 (omega arith)
       ∙ known_step r2 q2 n1 true w2 (step q2 s2 (state2-of 1 (i2 / 4) 0 true (bit e 10) false refl f.0 refl) n1 true (joined s1 w1) h1) in
       let i3 = p.low2 % 64 in
-      let n3 = join_at g.low i3 n2 in
+      let n3 = join_in g.low i3 n2 in
       let s3 = state_part 13 14 true (bit e 0) true false in
       let w3 = joined s3 w2 in
       let q3 = state_at state2_words (i3 % 2) 1 0 in
@@ -135,13 +136,13 @@ module _ (m : ByMemory) (g : Stage2Groups) (hg : IsStage2 m g) (e : ℕ) where
 
 pub stage2-groups : (m : ByMemory) (on : Bool) (g : Option Stage2Groups) → IsStage2If m on g → (e : ℕ) → Is (stage2_grouped g (places_of e)) (cond on (known2 m e) true) (stage2_word on (stage2_of e))
 unfolding stage2_of
-stage2-groups m on (Some g) h e = rw h.0 (on-groups m g h.1 e)
-stage2-groups m on None h e = rw h (whole-number ∙ sym (same_number whole))
+stage2-groups m on (Some g) h e = rw (← h.0) (on-groups m g (h.1 g refl) e)
+stage2-groups m on None h e = rw (← h.0) (whole-number ∙ sym (same_number whole))
 
 -- STAGE 1's first fields: valid with AttrIndx, AF with SH, under the mask of the levels
-module _ (m : ByMemory) (low : List Pair) (two : Bool) (hl : Grouped 64 (low_pair state1_words m (levels_mask two)) low) (d : ℕ) where
+module _ (m : ByMemory) (low : Table 64) (two : Bool) (hl : Grouped 64 (low_pair state1_words m (levels_mask two)) low) (d : ℕ) where
   low1 : (n : ℕ) (k : Bool) (w : Word) → Is n k w → let z = joined (state_part 11 12 false (bit d 0) true false) w in
-      Is (join_at low ((places_of d).low1 % 64) n) (not (get_or m.kind ((places_of d).low1 % 64 / 4) false) && k) (cond two z (joined one_part z))
+      Is (join_in low ((places_of d).low1 % 64) n) (not (get_or m.kind ((places_of d).low1 % 64 / 4) false) && k) (cond two z (joined one_part z))
   low1 n k w h =
       let i = (places_of d).low1 % 64 in
       let z = joined (state_part 11 12 false (bit d 0) true false) w in
@@ -183,14 +184,14 @@ module _ (s : Setup) (d : ℕ) (p u : Bool) where
   unfolding slot_words
   uslot-of = entry_of 16 (slot_part Unprivileged) uslot (slot-low (s.control.overlay.unprivileged && u) (slot_at s.por.unprivileged (po_index d)))
 
-  both : (slots : List Pair) → Grouped 64 (slots_pair s) slots → (n : ℕ) (k : Bool) (w : Word) → Is n k w
-      → Is (join_at slots (slots_index (places_of d).slots (part_of p u)) n) k (joined (slot_part Privileged pslot) (joined (slot_part Unprivileged uslot) w))
+  both : (slots : Table 64) → Grouped 64 (slots_pair s) slots → (n : ℕ) (k : Bool) (w : Word) → Is n k w
+      → Is (join_in slots (slots_index (places_of d).slots (part_of p u)) n) k (joined (slot_part Privileged pslot) (joined (slot_part Unprivileged uslot) w))
   both slots hs n k w h =
       let f = part-fields p u in
       let a = slots_at d (part_of p u) f.0 in
       let i = a.0 + part_of p u in
       let g = f.1 a.0 a.1 in
-      ap (λ (j : ℕ). join_at slots j n) a.2 ∙ group-law 64 _ slots hs i n g.0
+      ap (λ (j : ℕ). join_in slots j n) a.2 ∙ group-law 64 _ slots hs i n g.0
       ∙ ap (λ (j : POIndex). by j (eqb (i / 16 % 2) 1) (eqb (i / 32) 1)) a.3
       ∙ ap₂ (by (po_index d)) (ap (λ (x : ℕ). eqb x 1) g.1 ∙ one-digit p) (ap (λ (x : ℕ). eqb x 1) g.2 ∙ one-digit u)
       ∙ two_steps (pair_at (slot_words Privileged) pslot) (pair_at (slot_words Unprivileged) uslot) (slot_part Privileged pslot) (slot_part Unprivileged uslot) pslot-of uslot-of n k w h
@@ -200,7 +201,7 @@ module _ (s : Setup) (d : ℕ) (p u : Bool) where
           after (before (pair_at (slot_words Privileged) (slot_if (s.control.overlay.privileged && a) (slot_at s.por.privileged i)))
           (pair_at (slot_words Unprivileged) (slot_if (s.control.overlay.unprivileged && b) (slot_at s.por.unprivileged i)))) n
 
-  slots-groups : (g : Option (List Pair)) → SlotsGrouped s g → (n : ℕ) (k : Bool) (w : Word) → Is n k w
+  slots-groups : (g : Option (Table 64)) → SlotsGrouped s g → (n : ℕ) (k : Bool) (w : Word) → Is n k w
       → Is (slots_grouped g (places_of d).slots (part_of p u) n) k (slots_word s (stage1_of d) p u w)
   unfolding stage1_of
   slots-groups (Some g) hs n k w h = rw hs.0 (both g hs.1 n k w h)
@@ -222,7 +223,7 @@ module _ (s : Setup) (m : ByMemory) (g : DirectGroups) (hg : IsDirect s m g) (d 
   second = limits_part_of c (limits_of (t % 16))
 
   -- AP and the limits
-  limits-is : (n : ℕ) → join_at g.limits (ap_of + t % 16 * 4) n ≡ direct_number c (ap_of * 2 ^ 6) (t % 16) n
+  limits-is : (n : ℕ) → join_in g.limits (ap_of + t % 16 * 4) n ≡ direct_number c (ap_of * 2 ^ 6) (t % 16) n
   unfolding direct_number
   limits-is n =
       let k = ap_of + t % 16 * 4 in
@@ -301,18 +302,18 @@ module _ (s : Setup) (m : ByMemory) (g : DirectGroups) (hg : IsDirect s m g) (d 
       let n0 = slots_grouped g.slots p.slots 48 n in
       let w0 = slots_word s (stage1_of d) true true w in
       let i0 : Is n0 k w0 = slots-groups s d true true g.slots hg.slots n k w h in
-      let n1 = join_at g.limits (ap_of + t % 16 * 4) n0 in
+      let n1 = join_in g.limits (ap_of + t % 16 * 4) n0 in
       let w1 = direct_word c.wxn c.pan first second w0 in
       let i1 : Is n1 k w1 =
       limits-is n0 ∙ ap (direct_number c (ap_of * 2 ^ 6) (t % 16)) i0 ∙ direct-number c (ap_of * 2 ^ 6) (t % 16) (joined (known_part k) w0) ∙ through-three k w0 in
-      let n2 = join_at g.never x n1 in
+      let n2 = join_in g.never x n1 in
       let s3 = state_part 11 12 false true true (bit d 51) in
       let w2 = joined s3 (joined never-part w1) in
       let i2 : Is n2 k w2 =
       group-law 16 _ g.never hg.never x n1 (omega arith)
       ∙ two_steps (state_at state1_words 1 1 (x % 2)) (pair_at (descriptor_words c.two) (1 + x / 4 * 4)) s3 never-part
       (state1-of 1 1 (x % 2) true true (bit d 51) refl refl v.0) (rw v.1 never-of) n1 k w1 i1 in
-      let n3 = join_at g.flags f n2 in
+      let n3 = join_in g.flags f n2 in
       let s2 = state_part 11 12 false true (bit d 10) false in
       let w3 = joined s2 w2 in
       let q = state_at state1_words 1 (f / 4) 0 in
@@ -367,14 +368,14 @@ module _ (s : Setup) (m : ByMemory) (g : IndirectGroups) (hg : IsIndirect s m g)
       let n0 = slots_grouped g.slots p.slots (get_or g.applies i 0) n in
       let w0 = slots_word s (stage1_of d) (ltb pcode 8) (ltb ucode 8) w in
       let i0 : Is n0 k w0 = ap (λ (x : ℕ). slots_grouped g.slots p.slots x n) part-is ∙ slots-groups s d (ltb pcode 8) (ltb ucode 8) g.slots hg.slots n k w h in
-      let n1 = join_at g.codes i n0 in
+      let n1 = join_in g.codes i n0 in
       let w1 = joined (code_part_at Privileged pcode) (joined (code_part_at Unprivileged (code_if two ucode)) w0) in
       let i1 : Is n1 k w1 =
       group-law 32 _ g.codes hg.codes i n0 a.0
       ∙ ap (λ (i : PIIndex). after (before (pair_at (code_words Privileged) (code_at s.pir.privileged i % 16)) (pair_at (code_words Unprivileged) (code_if two (code_at s.pir.unprivileged i)))) n0) a.1
       ∙ two_steps (pair_at (code_words Privileged) pcode) (pair_at (code_words Unprivileged) (code_if two ucode)) (code_part_at Privileged pcode) (code_part_at Unprivileged (code_if two ucode)) privileged-of unprivileged-of n0 k w0 i0 in
       let j = p.state % 16 in
-      let n2 = join_at g.state j n1 in
+      let n2 = join_in g.state j n1 in
       let s2 = state_part 11 12 false true (bit d 10) false in
       let s3 = state_part 11 12 false true true (bit d 7) in
       let w2 = joined s2 (joined s3 w1) in

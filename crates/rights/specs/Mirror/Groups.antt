@@ -1,7 +1,8 @@
 -- The words of a leaf by groups of fields that stand side by side in a descriptor, for lists that are long enough to make tables of them: an entry of a group's
 -- table is the pair of its fields, one before the other, at the bits that are the entry's number. Nothing here needs to be believed: `stage2-groups`,
 -- `slots-groups`, `direct-groups`, `indirect-groups`, `off-groups` and `leaf-groups` of proofs/GroupedStages say that they give the number of a leaf's word. Assumes nothing.
-use Rattle.std.specs.Prelude.{ℕ, ◌+◌, ◌*◌, ◌/◌, ◌%◌, ◌<◌, ◌≡◌, Bool, true, false, cond, ◌&&◌, ◌||◌, List, Option, Some, None, eqb, ltb, get_or}
+use Rattle.std.specs.Prelude.{ℕ, ◌+◌, ◌*◌, ◌/◌, ◌%◌, ◌<◌, ◌≡◌, Bool, true, false, cond, ◌&&◌, ◌||◌, List, Option, Some, None, is_some, eqb, ltb, get_or}
+use Rattle.std.specs.Option.{ForSome}
 use Rattle.std.specs.Int.Bits.{bit_and, bit_or}
 use Rattle.records.specs.Descriptor.{pi_index, po_index, code_at, slot_at}
 use Rattle.records.specs.Mirror.Places.{codes_descriptor, slots_descriptor, codes_index, slots_index}
@@ -12,12 +13,13 @@ use Rattle.records.specs.declared.descriptor.places.SlotsPlace.{SlotsPlace}
 use Rattle.records.specs.declared.setup.Control.{Control}
 use Rattle.records.specs.declared.setup.Setup.{Setup}
 use Rattle.rights.specs.Mirror.Parts.{all_mask, one_mask, unknown_mask, state1_words, state2_words, permissions2_words, last_words, slot_words, code_words, descriptor_words, limits_words}
-use Rattle.rights.specs.Mirror.Parts.{nothing, pair_at, join_at, whole_number, slot_if, limits_if, last_index, code_if, off_number, levels_number}
+use Rattle.rights.specs.Mirror.Parts.{after, pair_at, join_at, whole_number, slot_if, limits_if, last_index, code_if, off_number, levels_number}
 use Rattle.rights.specs.declared.words.groups.DirectGroups.{DirectGroups}
 use Rattle.rights.specs.declared.words.groups.IndirectGroups.{IndirectGroups}
 use Rattle.rights.specs.declared.words.groups.OffGroups.{OffGroups}
 use Rattle.rights.specs.declared.words.groups.Stage2Groups.{Stage2Groups}
 use Rattle.rights.specs.declared.words.pair.Pair.{Pair}
+use Rattle.rights.specs.declared.words.pair.Table.{Table}
 
 -- fields before others
 unfoldable pub before : Pair → Pair → Pair
@@ -88,12 +90,19 @@ slots_pair s k =
 abbrev pub overlaid : Setup → Bool
 overlaid s = s.control.overlay.privileged || s.control.overlay.unprivileged
 
+-- the pair of entry k of a table, and the same before what follows
+abbrev pub pair_in : {n : ℕ} → Table n → ℕ → Pair
+pair_in t k = record { keeps = get_or t.keeps k 0; takes = get_or t.takes k 0 }
+
+abbrev pub join_in : {n : ℕ} → Table n → ℕ → ℕ → ℕ
+join_in t k w = after (pair_in t k) w
+
 -- a table of n entries
-abbrev pub Grouped : ℕ → (ℕ → Pair) → List Pair → Type 0
-Grouped n f g = (k : ℕ) → k < n → pair_at g k ≡ f k
+abbrev pub Grouped : (n : ℕ) → (ℕ → Pair) → Table n → Type 0
+Grouped n f g = (k : ℕ) → k < n → pair_in g k ≡ f k
 
 -- the table of slots, which is made where an overlay is on
-abbrev pub SlotsGrouped : Setup → Option (List Pair) → Type 0
+abbrev pub SlotsGrouped : Setup → Option (Table 64) → Type 0
 SlotsGrouped s (Some g) = (overlaid s ≡ true) × Grouped 64 (slots_pair s) g
 SlotsGrouped s None = overlaid s ≡ false
 
@@ -106,8 +115,7 @@ pub record IsStage2 (m : ByMemory) (g : Stage2Groups) : Type 0 where
 
 -- those of stage 2, which are made where the stage is on
 abbrev pub IsStage2If : ByMemory → Bool → Option Stage2Groups → Type 0
-IsStage2If m on (Some g) = (on ≡ true) × IsStage2 m g
-IsStage2If m on None = on ≡ false
+IsStage2If m on g = (is_some g ≡ on) × ForSome g (IsStage2 m)
 
 pub record IsDirect (s : Setup) (m : ByMemory) (g : DirectGroups) : Type 0 where
   pub low : Grouped 64 (low_pair state1_words m (levels_mask s.control.two)) g.low
@@ -125,27 +133,27 @@ pub record IsIndirect (s : Setup) (m : ByMemory) (g : IndirectGroups) : Type 0 w
 
 -- THE PASS BY GROUPS as the code makes it. Stage 2 at places e of its descriptor
 unfoldable pub stage2_at : Stage2Groups → Places → ℕ
-stage2_at g e = join_at g.low (e.low2 % 64) (join_at g.flags (e.flags % 8) (join_at g.never (e.never % 16) (get_or g.s2ap (e.ap % 4) 0)))
+stage2_at g e = join_in g.low (e.low2 % 64) (join_in g.flags (e.flags % 8) (join_in g.never (e.never % 16) (get_or g.s2ap (e.ap % 4) 0)))
 
 abbrev pub stage2_grouped : Option Stage2Groups → Places → ℕ
 stage2_grouped (Some g) e = stage2_at g e
 stage2_grouped None e = whole_number
 
 -- the slots, at a place in a part
-abbrev pub slots_grouped : Option (List Pair) → SlotsPlace → ℕ → ℕ → ℕ
-slots_grouped (Some g) d part w = join_at g (slots_index d part) w
+abbrev pub slots_grouped : Option (Table 64) → SlotsPlace → ℕ → ℕ → ℕ
+slots_grouped (Some g) d part w = join_in g (slots_index d part) w
 slots_grouped None d part w = w
 
 -- stage 1 under Direct, with limits l, before the word of stage 2: 48 is the part of the slots where overlays apply to the rights of both levels
 unfoldable pub direct_grouped : DirectGroups → Places → ℕ → ℕ → ℕ
 direct_grouped g d l w =
-    join_at g.low (d.low1 % 64) (join_at g.flags (d.flags % 8) (join_at g.never (d.never % 16) (join_at g.limits (d.ap % 4 + l % 16 * 4) (slots_grouped g.slots d.slots 48 w))))
+    join_in g.low (d.low1 % 64) (join_in g.flags (d.flags % 8) (join_in g.never (d.never % 16) (join_in g.limits (d.ap % 4 + l % 16 * 4) (slots_grouped g.slots d.slots 48 w))))
 
 -- stage 1 under Indirect, whose words read no limits
 unfoldable pub indirect_grouped : IndirectGroups → Places → ℕ → ℕ → ℕ
 indirect_grouped g d l w =
     let c = codes_index d.codes in
-    join_at g.low (d.low1 % 64) (join_at g.state (d.state % 16) (join_at g.codes c (slots_grouped g.slots d.slots (get_or g.applies c 0) w)))
+    join_in g.low (d.low1 % 64) (join_in g.state (d.state % 16) (join_in g.codes c (slots_grouped g.slots d.slots (get_or g.applies c 0) w)))
 
 -- stage 1 off
 abbrev pub off_grouped : OffGroups → Places → ℕ → ℕ → ℕ

@@ -5,7 +5,7 @@ ghost use Rattle.std.specs.Prelude.{◌≡◌, ℕ, cond, ◌≤◌, ◌<◌, ge
 ghost use Rattle.records.specs.declared.descriptor.places.Places.{Places};
 ghost use Rattle.rights.specs.Mirror.Groups.{known_mask, levels_mask, state_at, low_pair, flag_pair, state_pair, never_pair, s2ap_word, limits_pair, codes_pair, applies_at, slots_pair, Grouped, SlotsGrouped, IsStage2, IsStage2If, IsDirect, IsIndirect, stage2_at, stage2_grouped, slots_grouped, direct_grouped, indirect_grouped, off_grouped};
 
-use crate::words::pair::Pair;
+use crate::words::pair::{Pair, Table};
 use crate::words::tables::{
     descriptor_words, last_words, limits_words, permissions2_words, privileged_code_words,
     privileged_slot_words, state1_words, state2_words, unprivileged_code_words,
@@ -32,9 +32,9 @@ const BOTH_LEVELS: u8 = 48;
 // Stage 2's groups: valid with MemAttr (descriptor bits 5 to 0), AF with SH (10 to 8), dirty state with XN (54 to 51). S2AP is the last field.
 #[derive(Drop)]
 pub struct Stage2Groups {
-    low: [Pair; 64],
-    flags: [Pair; 8],
-    never: [Pair; 16],
+    low: Table<64>,
+    flags: Table<8>,
+    never: Table<16>,
     s2ap: [u64; 4],
 }
 
@@ -50,21 +50,21 @@ pub trait Stage1Groups {
 // and the slots, where an overlay is on.
 #[derive(Drop)]
 pub struct DirectGroups {
-    low: [Pair; 64],
-    flags: [Pair; 8],
-    never: [Pair; 16],
-    limits: [Pair; 64],
-    slots: Option<[Pair; 64]>,
+    low: Table<64>,
+    flags: Table<8>,
+    never: Table<16>,
+    limits: Table<64>,
+    slots: Option<Table<64>>,
 }
 
 // The same under Indirect: valid with AttrIndx, AF with SH and dirty state (10 to 7), the base codes, and the part of the table of slots that they pick.
 #[derive(Drop)]
 pub struct IndirectGroups {
-    low: [Pair; 64],
-    state: [Pair; 16],
-    codes: [Pair; 32],
+    low: Table<64>,
+    state: Table<16>,
+    codes: Table<32>,
     applies: [u8; 32],
-    slots: Option<[Pair; 64]>,
+    slots: Option<Table<64>>,
 }
 
 // Stage 1 that is off: it has no table.
@@ -110,10 +110,10 @@ fn low_entry(t: &[Pair; 8], m: &ByMemory, mask: u64, k: usize) -> Pair
     p.masked(known_mask(m.kind[k / 4])).masked(mask)
 }
 
-fn low_group(t: &[Pair; 8], m: &ByMemory, mask: u64) -> [Pair; 64]
+fn low_group(t: &[Pair; 8], m: &ByMemory, mask: u64) -> Table<64>
     ensures { Grouped 64 (low_pair t.now m.now mask) result }
 {
-    table_of(|k| low_entry(t, m, mask, k))
+    Table::of(|k| low_entry(t, m, mask, k))
 }
 
 // AF, bit 2 of `k`, with SH.
@@ -125,10 +125,10 @@ fn flag_entry(t: &[Pair; 8], m: &ByMemory, k: usize) -> Pair
     p.masked(known_mask(m.sh[k % 4]))
 }
 
-fn flag_group(t: &[Pair; 8], m: &ByMemory) -> [Pair; 8]
+fn flag_group(t: &[Pair; 8], m: &ByMemory) -> Table<8>
     ensures { Grouped 8 (flag_pair t.now m.now) result }
 {
-    table_of(|k| flag_entry(t, m, k))
+    Table::of(|k| flag_entry(t, m, k))
 }
 
 // Dirty state, bit 0 of `k`, with SH and AF, under Indirect.
@@ -141,10 +141,10 @@ fn state_entry(m: &ByMemory, k: usize) -> Pair
     p.masked(known_mask(m.sh[k / 2 % 4]))
 }
 
-fn state_group(m: &ByMemory) -> [Pair; 16]
+fn state_group(m: &ByMemory) -> Table<16>
     ensures { Grouped 16 (state_pair m.now) result }
 {
-    table_of(|k| state_entry(m, k))
+    Table::of(|k| state_entry(m, k))
 }
 
 // Dirty state, bit 0 of `k`, with execute never, `k / 4`: PXN and UXN, or XN. Their pairs stand in `b` beside an AP or S2AP, `beside`, that takes nothing which
@@ -157,11 +157,11 @@ fn never_entry(t: &[Pair; 8], b: &[Pair; 16], beside: usize, k: usize) -> Pair
     p.before(b[beside + k / 4 * 4])
 }
 
-fn never_group(t: &[Pair; 8], b: &[Pair; 16], beside: usize) -> [Pair; 16]
+fn never_group(t: &[Pair; 8], b: &[Pair; 16], beside: usize) -> Table<16>
     requires { beside < 4 }
     ensures { Grouped 16 (never_pair t.now b.now beside) result }
 {
-    table_of(|k| never_entry(t, b, beside, k))
+    Table::of(|k| never_entry(t, b, beside, k))
 }
 
 // AP, bits 1 and 0 of `k`, with the limits and the steps that read rights.
@@ -175,10 +175,10 @@ fn limits_entry(c: Control, k: usize) -> Pair
     first.before(second.before(last))
 }
 
-fn limits_group(c: Control) -> [Pair; 64]
+fn limits_group(c: Control) -> Table<64>
     ensures { Grouped 64 (limits_pair c) result }
 {
-    table_of(|k| limits_entry(c, k))
+    Table::of(|k| limits_entry(c, k))
 }
 
 // The base codes of both levels that the descriptor of entry `k` picks.
@@ -192,10 +192,10 @@ fn codes_entry(s: Setup, k: usize) -> Pair
     privileged_code_words()[p].before(unprivileged_code_words()[u])
 }
 
-fn codes_group(s: Setup) -> [Pair; 32]
+fn codes_group(s: Setup) -> Table<32>
     ensures { Grouped 32 (codes_pair s) result }
 {
-    table_of(|k| codes_entry(s, k))
+    Table::of(|k| codes_entry(s, k))
 }
 
 // The slots of both levels that the descriptor of entry `k` picks, where bits 4 and 5 of `k`, the part, say whether overlays apply.
@@ -210,14 +210,14 @@ fn slots_entry(s: Setup, k: usize) -> Pair
     privileged_slot_words()[p].before(unprivileged_slot_words()[u])
 }
 
-fn slots_table(s: Setup) -> [Pair; 64]
+fn slots_table(s: Setup) -> Table<64>
     ensures { Grouped 64 (slots_pair s) result }
 {
-    table_of(|k| slots_entry(s, k))
+    Table::of(|k| slots_entry(s, k))
 }
 
 // The table of slots, with a part for each choice of the base codes to which overlays apply, where an overlay is on.
-fn slots_group(s: Setup) -> Option<[Pair; 64]>
+fn slots_group(s: Setup) -> Option<Table<64>>
     ensures { SlotsGrouped s result }
 {
     let on = s.control.overlay;
@@ -263,11 +263,17 @@ fn s2ap_word(k: usize) -> u64
 }
 
 // The slots, where an overlay is on, of a descriptor at place `d` in a part of the table.
-fn slots_grouped(slots: &Option<[Pair; 64]>, d: SlotsPlace, part: u8, w: u64) -> u64
+fn slots_grouped(slots: &Option<Table<64>>, d: SlotsPlace, part: u8, w: u64) -> u64
     ensures { result ≡ slots_grouped slots.now d part w }
 {
     match slots {
-        Some(t) => d.pick(t, part).join(w),
+        Some(t) => {
+            let p = Pair {
+                keeps: d.pick(&t.keeps, part),
+                takes: d.pick(&t.takes, part),
+            };
+            p.join(w)
+        }
         None => w,
     }
 }
@@ -291,8 +297,8 @@ impl Stage2Groups {
     pub fn word(&self, e: Places) -> u64
         ensures { result ≡ stage2_at self.now e }
     {
-        let left = self.never[e.never % 16].join(self.s2ap[e.ap % 4]);
-        self.low[e.low2 % 64].join(self.flags[e.flags % 8].join(left))
+        let left = self.never.join(e.never % 16, self.s2ap[e.ap % 4]);
+        self.low.join(e.low2 % 64, self.flags.join(e.flags % 8, left))
     }
 }
 
@@ -339,9 +345,9 @@ impl Stage1Groups for DirectGroups {
     #[tactic(auto, unfolding(crate::specs::Mirror::Groups::direct_grouped))]
     fn word(&self, d: Places, l: u8, w: u64) -> u64 {
         let overlaid = slots_grouped(&self.slots, d.slots, BOTH_LEVELS, w);
-        let left = self.limits[d.ap % 4 + (l % 16) as usize * 4].join(overlaid);
-        let kept = self.flags[d.flags % 8].join(self.never[d.never % 16].join(left));
-        self.low[d.low1 % 64].join(kept)
+        let left = self.limits.join(d.ap % 4 + (l % 16) as usize * 4, overlaid);
+        let kept = self.flags.join(d.flags % 8, self.never.join(d.never % 16, left));
+        self.low.join(d.low1 % 64, kept)
     }
 }
 
@@ -367,8 +373,12 @@ impl Stage1Groups for IndirectGroups {
     fn word(&self, d: Places, _: u8, w: u64) -> u64 {
         let c = d.codes;
         let overlaid = slots_grouped(&self.slots, d.slots, c.pick(&self.applies), w);
-        let left = self.state[d.state % 16].join(c.pick(&self.codes).join(overlaid));
-        self.low[d.low1 % 64].join(left)
+        let codes = Pair {
+            keeps: c.pick(&self.codes.keeps),
+            takes: c.pick(&self.codes.takes),
+        };
+        let left = self.state.join(d.state % 16, codes.join(overlaid));
+        self.low.join(d.low1 % 64, left)
     }
 }
 

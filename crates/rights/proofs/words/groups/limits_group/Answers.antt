@@ -1,7 +1,6 @@
 -- Each entry is what the closure gives.
 use Rattle.std.proofs.Common.{rules}
-use Rattle.rights.specs.Mirror.Parts.{nothing}
 use Rattle.rights.proofs.words.groups.limits_group.Goals as goal
 
 pub returns : goal.returns
-returns c = λ k h. let e = c.table_of.ensures nothing k h in search rules
+returns c = λ k h. let e = c.of.ensures k h in search rules
