@@ -51,7 +51,7 @@ module _ (s : Setup) (t : Refused) (ht : IsRefused s.control s.mair s.mair2 t) (
   second_is : (e : ℕ) → Is (stage2_grouped second (places_of e)) (known-second e) (stage2_word s.control.stage2 (stage2_of e))
   second_is e = stage2-groups t.stage2 s.control.stage2 second h2 e
 
-  pub off-gives : s.control.stage1 ≡ false → (g : OffGroups) → g.two ≡ s.control.two → Gives s (groups_at (off_grouped g) second)
+  pub off-gives : s.control.stage1 ≡ false → (g : OffGroups) → g.two ≡ s.control.two → Gives s (groups_at (off_grouped g) (stage2_grouped second))
   off-gives off g two f =
       let d = f.stage1 in
       let e = f.stage2 in
@@ -60,7 +60,7 @@ module _ (s : Setup) (t : Refused) (ht : IsRefused s.control s.mair s.mair2 t) (
       rw two (found f _ _ known (leaf-groups s f false off _ (known-second e) s.control.indirect refl (off-groups s.control.two _ (known-second e) _ (second_is e))))
 
   module _ (on : s.control.stage1 ≡ true) where
-    pub direct-gives : s.control.indirect ≡ false → (g : DirectGroups) → IsDirect s t.stage1 g → Gives s (groups_at (direct_grouped g) second)
+    pub direct-gives : s.control.indirect ≡ false → (g : DirectGroups) → IsDirect s t.stage1 g → Gives s (groups_at (direct_grouped g) (stage2_grouped second))
     direct-gives mode g h f =
         let d = f.stage1 in
         let e = f.stage2 in
@@ -68,7 +68,7 @@ module _ (s : Setup) (t : Refused) (ht : IsRefused s.control s.mair s.mair2 t) (
         (leaf-groups s f true on _ (passes_at t.stage1.kind ((places_of d).low1 % 64 / 4) && (passes_at t.stage1.sh ((places_of d).flags % 8 % 4) && known-second e)) false mode
         (direct-groups s t.stage1 g h d f.limits _ (known-second e) _ (second_is e)))
 
-    pub indirect-gives : s.control.indirect ≡ true → (g : IndirectGroups) → IsIndirect s t.stage1 g → Gives s (groups_at (indirect_grouped g) second)
+    pub indirect-gives : s.control.indirect ≡ true → (g : IndirectGroups) → IsIndirect s t.stage1 g → Gives s (groups_at (indirect_grouped g) (stage2_grouped second))
     indirect-gives mode g h f =
         let d = f.stage1 in
         let e = f.stage2 in

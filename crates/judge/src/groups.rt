@@ -8,7 +8,7 @@ use crate::fill::{LeafWord, Words};
 use attributes::known::{Refused, refused_memory};
 use records::descriptor::places::leaf_places;
 use records::setup::Setup;
-use rights::words::groups::{Stage1Groups, Stage2Groups, stage2_grouped, stage2_groups};
+use rights::words::groups::{Stage1Groups, Stage2, Stage2Groups, stage2_groups};
 
 // What a setup decides whatever stage 1's mode is: what it refuses of memory, and the groups of stage 2, where it is on.
 #[derive(Drop)]
@@ -33,20 +33,21 @@ impl Second {
     }
 }
 
-// The same with stage 1 in its mode.
+// A setup, with what makes the words of stage 1 in its mode and of stage 2.
 #[derive(Drop)]
-pub(crate) struct Groups<'a, F: Stage1Groups> {
+pub(crate) struct Groups<'a, F: Stage1Groups, S: Stage2> {
+    pub setup: &'a Setup,
     pub first: &'a F,
-    pub second: &'a Second,
-    ghost gives: { Gives second.now.setup (groups_at (F.number first.now) second.now.groups) },
+    pub second: &'a S,
+    ghost gives: { Gives setup.now (groups_at (F.number first.now) (S.number second.now)) },
 }
 
-impl<'a, F: Stage1Groups> Words for Groups<'a, F> {
-    ghost setup_of = { λ s. s.second.now.setup };
+impl<'a, F: Stage1Groups, S: Stage2> Words for Groups<'a, F, S> {
+    ghost setup_of = { λ s. s.setup.now };
 
     fn leaf(&self, leaves: &[u8], i: usize) -> LeafWord {
         let f = leaf_places(leaves, i);
-        let left = stage2_grouped(&self.second.groups, f.stage2);
+        let left = self.second.word(f.stage2);
         LeafWord {
             word: self.first.word(f.stage1, f.limits, left),
             limits: f.limits,

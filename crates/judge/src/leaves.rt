@@ -24,8 +24,19 @@ fn direct_list(second: &Second, leaves: &[u8], rights: &mut [u8], found: &mut [u
     requires mode { (second.now.setup.control.stage1 ≡ true) × (second.now.setup.control.indirect ≡ false) }
     ensures { (eqb result 0 ≡ clear second.now.setup leaves.now (leaf_count leaves.now)) × Found second.now.setup leaves.now (leaf_count leaves.now) rights.new found.new }
 {
+    let setup = &second.setup;
     let first = &DirectGroups::of(second.setup, &second.memory.stage1);
-    fill(&Groups { first, second }, leaves, rights, found)
+    let second = &second.groups;
+    fill(
+        &Groups {
+            setup,
+            first,
+            second,
+        },
+        leaves,
+        rights,
+        found,
+    )
 }
 
 // The same under Indirect.
@@ -34,8 +45,55 @@ fn indirect_list(second: &Second, leaves: &[u8], rights: &mut [u8], found: &mut 
     requires mode { (second.now.setup.control.stage1 ≡ true) × (second.now.setup.control.indirect ≡ true) }
     ensures { (eqb result 0 ≡ clear second.now.setup leaves.now (leaf_count leaves.now)) × Found second.now.setup leaves.now (leaf_count leaves.now) rights.new found.new }
 {
+    let setup = &second.setup;
     let first = &IndirectGroups::of(second.setup, &second.memory.stage1);
-    fill(&Groups { first, second }, leaves, rights, found)
+    let second = &second.groups;
+    fill(
+        &Groups {
+            setup,
+            first,
+            second,
+        },
+        leaves,
+        rights,
+        found,
+    )
+}
+
+// The same with stage 1 off. Stage 2 is looked at before the leaves, since the compiler does not take the test out of so short a loop, which takes 13 percent longer
+// with it.
+fn off_list(second: &Second, leaves: &[u8], rights: &mut [u8], found: &mut [u8]) -> u64
+    requires room { (leaf_count leaves.now ≤ length rights.old) × (6 * leaf_count leaves.now + 2 ≤ length found.old) }
+    requires mode { second.now.setup.control.stage1 ≡ false }
+    ensures { (eqb result 0 ≡ clear second.now.setup leaves.now (leaf_count leaves.now)) × Found second.now.setup leaves.now (leaf_count leaves.now) rights.new found.new }
+{
+    let setup = &second.setup;
+    let first = &OffGroups::of(setup.control.two);
+    match &second.groups {
+        Some(second) => fill(
+            &Groups {
+                setup,
+                first,
+                second,
+            },
+            leaves,
+            rights,
+            found,
+        ),
+        None => {
+            let second = &second.groups;
+            fill(
+                &Groups {
+                    setup,
+                    first,
+                    second,
+                },
+                leaves,
+                rights,
+                found,
+            )
+        }
+    }
 }
 
 // The same in any mode.
@@ -50,8 +108,7 @@ fn long_list(setup: Setup, leaves: &[u8], rights: &mut [u8], found: &mut [u8]) -
         }
         return direct_list(second, leaves, rights, found);
     }
-    let first = &OffGroups::of(setup.control.two);
-    fill(&Groups { first, second }, leaves, rights, found)
+    off_list(second, leaves, rights, found)
 }
 
 // The same of any list.

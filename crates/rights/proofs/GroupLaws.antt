@@ -2,7 +2,7 @@
 -- together are taken apart, and what is known of the memory goes through every field. Assumes nothing.
 use mathlib.Core.Path.{◌≡◌, refl, sym, ap, ap₂, ◌∙◌}
 use mathlib.Core.Bool.{Bool, true, false, cond, not, ◌&&◌, and_assoc}
-use mathlib.Core.List.{List, [], ◌∷◌, ◌++◌}
+use mathlib.Core.List.{List, [], ◌∷◌}
 use Prim.Native.Nat.{ℕ, ◌<◌}
 use lib.Bits.{bit_and, bit_or}
 use Rattle.records.proofs.BitLaws.{and-and, or-or, and-or}
@@ -12,7 +12,7 @@ use Rattle.records.specs.declared.access.Level.TheVariants.{Privileged, Unprivil
 use Rattle.records.specs.declared.access.Right.TheVariants.{Read, Write}
 use Rattle.rights.specs.Direct.{ap as ap_of}
 use Rattle.rights.specs.Mirror.Groups.{before, masked, known_mask, levels_mask, join_in, Grouped}
-use Rattle.rights.specs.Mirror.Parts.{after, pair_at, all_mask, one_mask, unknown_mask, state_part, stage2_part, descriptor_part, last_part, direct_word, one_part, known_part, known_number}
+use Rattle.rights.specs.Mirror.Parts.{after, pair_at, all_mask, one_mask, state_part, stage2_part, descriptor_part, last_part, direct_word, one_part, known_part, known_number}
 use Rattle.rights.specs.Mirror.Words.{Word, Part, joined, number_of, keep_of, take_of, pair_of, pairs}
 use Rattle.rights.specs.Stage2.{xn_px, xn_ux}
 use Rattle.rights.specs.declared.words.pair.Pair.{Pair}

@@ -2,12 +2,12 @@
 use mathlib.Core.Path.{◌≡◌, refl, sym, ap, ap₂, ◌∙◌}
 use mathlib.Core.Bool.{Bool, true, false, cond, not, ◌&&◌}
 use Rattle.std.specs.Prelude.{Option, Some, None}
-use mathlib.Core.List.{List, [], ◌∷◌, ◌++◌}
+use mathlib.Core.List.{List, [], ◌∷◌}
 use Prim.Native.Nat.{ℕ, ◌+◌, ◌*◌, ◌/◌, ◌%◌, ◌^◌, ◌<◌}
-use native.Mathlib.Nat.{zero-add, div-div-eq-div-mul}
+use native.Mathlib.Nat.{div-div-eq-div-mul}
 use native.Mathlib.Omega.{arith}
 use lib.Dec.{eqb, ltb}
-use lib.ListN.{length, get_or}
+use lib.ListN.{get_or}
 use Rattle.records.proofs.Cases.{at, each, nth}
 use Rattle.records.proofs.FieldLaws.{limit-bits}
 use Rattle.records.proofs.PlaceLaws.{low2-fields, low1-fields, flag-fields, state-fields, never-fields, ap-bits, codes_at, slots_at}
@@ -34,7 +34,6 @@ use Rattle.rights.specs.Stage2.{xn_px, xn_ux}
 use Rattle.rights.specs.declared.words.groups.DirectGroups.{DirectGroups}
 use Rattle.rights.specs.declared.words.groups.IndirectGroups.{IndirectGroups}
 use Rattle.rights.specs.declared.words.groups.Stage2Groups.{Stage2Groups}
-use Rattle.rights.specs.declared.words.pair.Pair.{Pair}
 use Rattle.rights.specs.declared.words.pair.Table.{Table}
 use Rattle.rights.proofs.GroupLaws.{before-after, group-law, Is, same_word, behind, through, same_number, Of, entry_of, step, two_steps, known_step, levels-step, state-apart, direct-apart, stage2-apart}
 use Rattle.rights.proofs.Joins.{join-at}

@@ -10,14 +10,14 @@ pub mod groups;
 pub mod pair;
 mod tables;
 
-use records::descriptor::fields::{indirect_state, permissions, state};
-use records::descriptor::index::{PIIndex, POIndex};
-use records::leaf::Leaf;
 use crate::words::tables::{
     descriptor_words, last_words, limits_words, permissions2_words, privileged_code_words,
     privileged_slot_words, state1_words, state2_words, unprivileged_code_words,
     unprivileged_slot_words,
 };
+use records::descriptor::fields::{indirect_state, permissions, state};
+use records::descriptor::index::{PIIndex, POIndex};
+use records::leaf::Leaf;
 use records::setup::{Control, Setup};
 
 // No access is taken away.

@@ -1,6 +1,6 @@
 -- What the list reads from the words of its leaves, and the words by groups. Nothing here needs to be believed: `word-clear` and `word-refused` of
 -- proofs/LeafWords tie the words to `leaf_rights` and `cause_at`, `direct-gives`, `indirect-gives` and `off-gives` of proofs/GroupWords the groups to the words. Assumes nothing.
-use Rattle.std.specs.Prelude.{ℕ, zero, suc, ◌+◌, ◌*◌, ◌/◌, ◌%◌, ◌^◌, ◌<◌, ◌≡◌, Bool, true, ◌&&◌, List, Option, eqb, get_or, set}
+use Rattle.std.specs.Prelude.{ℕ, zero, suc, ◌+◌, ◌*◌, ◌/◌, ◌%◌, ◌^◌, ◌<◌, ◌≡◌, Bool, true, ◌&&◌, List, eqb, get_or, set}
 use Rattle.std.specs.Int.Bits.{bit_or, bit_xor}
 use Rattle.records.specs.Descriptor.{stage1_of, stage2_of}
 use Rattle.records.specs.Leaf.{leaf_at}
@@ -9,10 +9,8 @@ use Rattle.records.specs.declared.descriptor.places.LeafPlaces.{LeafPlaces}
 use Rattle.records.specs.declared.descriptor.places.Places.{Places}
 use Rattle.records.specs.declared.leaf.Leaf.{Leaf}
 use Rattle.records.specs.declared.setup.Setup.{Setup}
-use Rattle.rights.specs.Mirror.Groups.{stage2_grouped}
 use Rattle.rights.specs.Mirror.Parts.{known_part, leaf_word}
 use Rattle.rights.specs.Mirror.Words.{Word, joined, number_of}
-use Rattle.rights.specs.declared.words.groups.Stage2Groups.{Stage2Groups}
 use Rattle.attributes.specs.Mirror.Known.{passes}
 use Rattle.attributes.specs.Order.{check_of}
 use Rattle.judge.specs.declared.fill.LeafWord.{LeafWord}
@@ -71,9 +69,9 @@ put_at v k w =
 abbrev pub found_at : Setup → List ℕ → ℕ → LeafWord
 found_at s ls i = record { word = word_at s ls i; limits = (leaf_at ls i).limits; forbidden = (leaf_at ls i).forbidden }
 
--- by groups: the word of a leaf at its places, where `first` is what stage 1 makes of its descriptor
-abbrev pub groups_at : (Places → ℕ → ℕ → ℕ) → Option Stage2Groups → LeafPlaces → ℕ
-groups_at first second f = first f.stage1 f.limits (stage2_grouped second f.stage2)
+-- by groups: the word of a leaf at its places, where `first` and `second` are what the stages make of their descriptors
+abbrev pub groups_at : (Places → ℕ → ℕ → ℕ) → (Places → ℕ) → LeafPlaces → ℕ
+groups_at first second f = first f.stage1 f.limits (second f.stage2)
 
 -- the numbers that g gives at the places of leaves are those of their words
 abbrev pub Gives : Setup → (LeafPlaces → ℕ) → Type 0

@@ -38,6 +38,14 @@ pub struct Stage2Groups {
     s2ap: [u64; 4],
 }
 
+// What stage 2 makes of a descriptor at places `e`.
+pub trait Stage2 {
+    ghost number: { Self → Places → ℕ };
+
+    fn word(&self, e: Places) -> u64
+        ensures { result ≡ number self.now e };
+}
+
 // What stage 1 makes of a descriptor at places `d` with limits `l`, before the word of what follows.
 pub trait Stage1Groups {
     ghost number: { Self → Places → ℕ → ℕ → ℕ };
@@ -291,14 +299,16 @@ impl Stage2Groups {
             s2ap: table_of(|k| s2ap_word(k)),
         }
     }
+}
 
-    // The word of a descriptor at places `e`.
+impl Stage2 for Stage2Groups {
+    ghost number = { stage2_at };
+
     #[tactic(auto, unfolding(crate::specs::Mirror::Groups::stage2_at))]
-    pub fn word(&self, e: Places) -> u64
-        ensures { result ≡ stage2_at self.now e }
-    {
+    fn word(&self, e: Places) -> u64 {
         let left = self.never.join(e.never % 16, self.s2ap[e.ap % 4]);
-        self.low.join(e.low2 % 64, self.flags.join(e.flags % 8, left))
+        self.low
+            .join(e.low2 % 64, self.flags.join(e.flags % 8, left))
     }
 }
 
@@ -312,13 +322,15 @@ pub fn stage2_groups(on: bool, m: &ByMemory) -> Option<Stage2Groups>
     None
 }
 
-// The word of stage 2, where it is on.
-pub fn stage2_grouped(g: &Option<Stage2Groups>, e: Places) -> u64
-    ensures { result ≡ stage2_grouped g.now e }
-{
-    match g {
-        Some(on) => on.word(e),
-        None => WHOLE,
+// Nothing is taken away where it is off.
+impl Stage2 for Option<Stage2Groups> {
+    ghost number = { stage2_grouped };
+
+    fn word(&self, e: Places) -> u64 {
+        match self {
+            Some(on) => on.word(e),
+            None => WHOLE,
+        }
     }
 }
 
@@ -346,7 +358,9 @@ impl Stage1Groups for DirectGroups {
     fn word(&self, d: Places, l: u8, w: u64) -> u64 {
         let overlaid = slots_grouped(&self.slots, d.slots, BOTH_LEVELS, w);
         let left = self.limits.join(d.ap % 4 + (l % 16) as usize * 4, overlaid);
-        let kept = self.flags.join(d.flags % 8, self.never.join(d.never % 16, left));
+        let kept = self
+            .flags
+            .join(d.flags % 8, self.never.join(d.never % 16, left));
         self.low.join(d.low1 % 64, kept)
     }
 }

@@ -19,5 +19,6 @@ returns g c =
     let f = c.leaf_places-f.result in
     let leaf = c.leaf_places-f.ensures in
     let first = g.F.Stage1Groups.number v.first.now in
-    parts v.second.now.setup a.leaves.now a.i c.word.result f leaf
-    (c.word.ensures ∙ ap (first f.stage1 f.limits) c.stage2_grouped-left.ensures ∙ ap (groups_at first v.second.now.groups) leaf ∙ v.gives (leaf_at a.leaves.now a.i))
+    let second = g.S.Stage2.number v.second.now in
+    parts v.setup.now a.leaves.now a.i c.word.result f leaf
+    (c.word.ensures ∙ (ap (first f.stage1 f.limits) c.word-left.ensures ∙ (ap (groups_at first second) leaf ∙ v.gives (leaf_at a.leaves.now a.i))))
