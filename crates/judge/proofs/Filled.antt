@@ -13,13 +13,13 @@ use Rattle.records.proofs.BitLaws.{or-none}
 use Rattle.records.proofs.Cases.{each, nth}
 use Rattle.records.proofs.Halves.{Entries, one_entry}
 use Rattle.records.specs.Leaf.{leaf_at}
-use Rattle.records.specs.declared.leaf.Leaf.{Leaf}
 use Rattle.records.specs.declared.setup.Setup.{Setup}
 use Rattle.rights.proofs.WordNumbers.{number-law, known-number}
 use Rattle.rights.specs.Mirror.Parts.{leaf_word, leaf_number, known_number}
 use Rattle.attributes.proofs.KnownLaws.{known-law}
-use Rattle.attributes.specs.Mirror.Known.{known_with}
-use Rattle.judge.specs.Mirror.Words.{marks_in, total, known_of, rights_in, cause_in, word_at, mark_at, clear, put_at, Tables, Found}
+use Rattle.attributes.specs.Mirror.Known.{IsRefused, known_with}
+use Rattle.attributes.specs.declared.known.Refused.{Refused}
+use Rattle.judge.specs.Mirror.Words.{marks_in, total, known_of, rights_in, cause_in, word_at, mark_at, clear, put_at, Found}
 
 fewer : (f : ℕ → ℕ) (t : List ℕ) (m n : ℕ) → n ≤ m → Entries f t m → Entries f t n
 fewer f t m n h e j g = e j (omega arith)
@@ -61,13 +61,13 @@ module _ (s : Setup) (ls : List ℕ) where
       at_place : (j : ℕ) → j < 6 → cause_in w j ≡ cause_in (word_at s ls ((6 * i + j) / 6)) ((6 * i + j) % 6)
       at_place j g = let x : (6 * i + j) / 6 ≡ i = omega arith in let y : (6 * i + j) % 6 ≡ j = omega arith in rw (x, y, e)
 
-  -- what the code finds of leaf i
-  pub word-is : (b o t m : List ℕ) → Tables s b o t m → (i w : ℕ) (known : Bool) (l : Leaf) → l ≡ leaf_at ls i → known ≡ known_with m l.stage1 l.stage2 → w ≡ leaf_number b o t s l
-      → known_number known w ≡ word_at s ls i
+  -- what single fields give of leaf i
+  pub word_is : (t : Refused) → IsRefused s.control s.mair s.mair2 t → (i : ℕ) → let f = leaf_at ls i in
+      known_number (known_with t f.stage1 f.stage2) (leaf_number s f) ≡ word_at s ls i
   unfolding word_at
-  word-is b o t m tables i w known l e f g =
-      let h = leaf_at ls i in
-      ap₂ known_number (rw e at f ∙ known-law s h.stage1 h.stage2 m tables.3) (g ∙ rw (e, tables.0, tables.1, tables.2) (number-law s h)) ∙ known-number (known_of s h) (leaf_word s h)
+  word_is t made i =
+      let f = leaf_at ls i in
+      ap₂ known_number (known-law s f.stage1 f.stage2 t made) (number-law s f) ∙ known-number (known_of s f) (leaf_word s f)
 
   -- marks are gathered
   pub marks-are : (i m l f w x y : ℕ) → x ≡ (leaf_at ls i).limits → y ≡ (leaf_at ls i).forbidden → w ≡ word_at s ls i → eqb (total m l f) 0 ≡ clear s ls i

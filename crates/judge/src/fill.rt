@@ -1,12 +1,28 @@
-// The rights and causes of a list of leaves, from one pass by the words of single fields. A leaf that is refused is marked.
-ghost use Rattle.std.specs.Prelude.{◌≡◌, ◌+◌, ◌*◌, ◌≤◌, eqb, length};
-ghost use Rattle.judge.specs.Mirror.Words.{marks_in, total, put_at, Tables, clear, Found};
+// The rights and causes of a list of leaves, from one pass by the words of its leaves. A leaf that is refused is marked.
+ghost use Rattle.std.specs.Prelude.{◌≡◌, ◌+◌, ◌*◌, ◌≤◌, List, ℕ, eqb, length};
+ghost use Rattle.records.specs.Leaf.{leaf_count};
+ghost use Rattle.records.specs.declared.setup.Setup.{Setup};
+ghost use Rattle.judge.specs.Mirror.Words.{marks_in, total, put_at, clear, Found, found_at};
 
-use crate::walk::leaf_of;
-use attributes::known::is_known;
 use records::number::wide;
-use records::setup::Setup;
-use rights::words::{known_word, leaf_word};
+
+// What is read of a leaf: its word, and the bytes that may be too high.
+#[derive(Clone, Copy)]
+pub(crate) struct LeafWord {
+    pub word: u64,
+    pub limits: u8,
+    pub forbidden: u8,
+}
+
+// A way to the words of leaves, for a setup.
+pub(crate) trait Words {
+    ghost setup_of: { Self → Setup };
+
+    // What is read of leaf `i` of a list.
+    fn leaf(&self, leaves: &[u8], i: usize) -> LeafWord
+        requires { i * 18 + 18 ≤ length leaves.now }
+        ensures { result ≡ found_at (setup_of self.now) leaves.now i };
+}
 
 // The marks of a word: bits 0 to 7 and 14 are 0 exactly where no access is open and not good and no base codes are refused.
 #[tactic(auto, unfolding(crate::specs::Mirror::Words::marks_in))]
@@ -39,37 +55,22 @@ pub(crate) fn put(causes: &mut [u8], at: usize, w: u64)
     causes[at + 7] = ((w >> 56) % 256) as u8;
 }
 
-// Puts the rights of `n` leaves at the start of `rights` and their causes at the start of `causes`, which has two bytes more. The answer is 0 exactly where no
+// Puts the rights of the leaves at the start of `rights` and their causes at the start of `causes`, which has two bytes more. The answer is 0 exactly where no
 // leaf is marked.
-pub(crate) fn fill(
-    s: Setup,
-    base: &[u64; 64],
-    slots: &[u64; 64],
-    stages: &[u64; 96],
-    memory: &[u8; 40],
-    leaves: &[u8],
-    n: usize,
-    rights: &mut [u8],
-    causes: &mut [u8],
-) -> u64
-    requires { (n * 18 ≤ length leaves.now) × (n ≤ length rights.old) × (6 * n + 2 ≤ length causes.old) × Tables s base.now slots.now stages.now memory.now }
-    ensures { (eqb result 0 ≡ clear s leaves.now n) × Found s leaves.now n rights.new causes.new }
+pub(crate) fn fill<W: Words>(words: &W, leaves: &[u8], rights: &mut [u8], causes: &mut [u8]) -> u64
+    requires { (leaf_count leaves.now ≤ length rights.old) × (6 * leaf_count leaves.now + 2 ≤ length causes.old) }
+    ensures { (eqb result 0 ≡ clear (W.setup_of words.now) leaves.now (leaf_count leaves.now)) × Found (W.setup_of words.now) leaves.now (leaf_count leaves.now) rights.new causes.new }
 {
     let mut marks: u64 = 0;
     let mut limits: u8 = 0;
     let mut forbidden: u8 = 0;
-    let mut i: usize = 0;
-    while i < n {
-        let at = 6 * i;
-        let l = leaf_of(leaves, i);
-        let known = is_known(memory, l.stage1, l.stage2);
-        let w = known_word(known, leaf_word(base, slots, stages, s, l));
-        marks = marks | marks_in(w);
-        limits = limits | l.limits;
-        forbidden = forbidden | l.forbidden;
-        rights[i] = ((w >> 48) % 256) as u8;
-        put(causes, at, w);
-        i += 1;
+    for i in 0..leaves.len() / 18 {
+        let found = words.leaf(leaves, i);
+        marks |= marks_in(found.word);
+        limits |= found.limits;
+        forbidden |= found.forbidden;
+        rights[i] = ((found.word >> 48) % 256) as u8;
+        put(causes, 6 * i, found.word);
     }
     sum_up(marks, limits, forbidden)
 }

@@ -4,6 +4,7 @@
 #![tactic(auto)]
 
 pub mod access;
+mod fields;
 mod fill;
 mod groups;
 mod leaves;

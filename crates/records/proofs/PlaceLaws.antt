@@ -6,7 +6,7 @@ use Prim.Native.Nat.{ℕ, ◌+◌, ◌*◌, ◌/◌, ◌%◌, ◌^◌, ◌<◌, 
 use native.Mathlib.Nat.{add-zero, add_assoc, div-div-eq-div-mul}
 use native.Mathlib.Omega.{arith}
 use lib.Dec.{eqb}
-use lib.ListN.{length, take, drop, get_or}
+use lib.ListN.{length, take, drop}
 use lib.Seq.{get_or-take, get_or-drop}
 use Rattle.records.specs.Access.{digit}
 use Rattle.records.specs.Bits.{bit, field}
@@ -14,7 +14,7 @@ use Rattle.records.specs.Bytes.{byte_at, le16, le32, le64}
 use Rattle.records.specs.Descriptor.{sh, mem_attr, pi_index, po_index}
 use Rattle.records.specs.Leaf.{leaf_of, leaf_at}
 use Rattle.records.specs.Mirror.Fields.{attr_indx_of}
-use Rattle.records.specs.Mirror.Places.{places_of, codes_place, slots_place, codes_descriptor, slots_descriptor, group_at, codes_join, codes_part, slots_join}
+use Rattle.records.specs.Mirror.Places.{places_of, codes_place, slots_place, codes_descriptor, slots_descriptor, codes_index, slots_index}
 use Rattle.records.specs.declared.descriptor.places.Places.{Places}
 use Rattle.records.proofs.Cases.{upto, at}
 use Rattle.records.proofs.FieldLaws.{permission-bits}
@@ -190,15 +190,11 @@ module _ (d : ℕ) where
       high : (x y : ℕ) → x % 2 ^ 2 % 4 / 2 ^ 1 % 2 ≡ (x % 2 ^ 2 + y % 2 ^ 2 * 4) / 2 ^ 1 % 2
       high x y = omega arith
 
-  -- the entry at the place of base codes: which it is, is not told, but that its own descriptor picks the same codes
-  pub codes_at : (k : ℕ) × (k < 32) × ((g : List ℕ) (w : ℕ) → codes_join g (places_of d).codes w ≡ group_at g 32 k w) × ((a : List ℕ) → codes_part a (places_of d).codes ≡ get_or a k 0)
-      × (pi_index (codes_descriptor k) ≡ pi_index d)
+  -- the entry at the place of base codes: its own descriptor picks the same codes
+  pub codes_at : let k = codes_index (places_of d).codes in (k < 32) × (pi_index (codes_descriptor k) ≡ pi_index d)
   unfolding places_of
   codes_at = (
-    (codes_place d).0 % 32,
     omega arith,
-    (λ g w. refl),
-    (λ a. refl),
     ap (λ (n : ℕ). record { 0 = n })
         (at 32 (λ (k : ℕ). field (codes_descriptor k) 54 1 * 8 + field (codes_descriptor k) 53 1 * 4 + field (codes_descriptor k) 51 1 * 2 + field (codes_descriptor k) 6 1) sum refl ((codes_place d).0 % 32) (omega arith)
         ∙ rw (← (div-div-eq-div-mul d (2 ^ 51) 8), ← (div-div-eq-div-mul d (2 ^ 51) 4)) (go (d / 2 ^ 51) (d / 2 ^ 6))),
@@ -227,14 +223,14 @@ module _ (d : ℕ) where
 
   -- and at the place of slots, in a part that is 0, 16, 32 or 48
   pub slots_at : (part : ℕ) → part % 64 / 16 * 16 ≡ part
-      → (k : ℕ) × (k < 16) × ((g : List ℕ) (w : ℕ) → slots_join g (places_of d).slots part w ≡ group_at g 64 (k + part) w) × (po_index (slots_descriptor (k + part)) ≡ po_index d)
+      → (k : ℕ) × (k < 16) × (slots_index (places_of d).slots part ≡ k + part) × (po_index (slots_descriptor (k + part)) ≡ po_index d)
   unfolding places_of
   slots_at part e =
       let k = (slots_place d).0 % 16 in
       let f : (k + part) % 16 ≡ k = omega arith in (
         k,
         omega arith,
-        (λ g w. ap (λ (n : ℕ). group_at g 64 (k + n) w) e),
+        ap (λ (n : ℕ). k + n) e,
         ap (λ (n : ℕ). record { 0 = n })
             (ap (λ (n : ℕ). field (n * 2 ^ 59) 60 3) f
             ∙ at 16 (λ (k : ℕ). field (k * 2 ^ 59) 60 3) (λ (k : ℕ). k / 2) refl k (omega arith) ∙ go (d / 2 ^ 59) ∙ ap (λ (n : ℕ). n % 2 ^ 3) (div-div-eq-div-mul d (2 ^ 59) 2)),

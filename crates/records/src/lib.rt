@@ -2,7 +2,8 @@
 // two indices, accesses and map files, decoded from bytes. It is the only layer that reads a raw bit of a record, but for the planner's pass
 // (docs/DESIGN.md). It judges nothing.
 //
-// No public function but `descriptor::places::leaf_places`, which reads a leaf of a list, has a `requires`: each refuses what it can't read, or is total.
+// No public function has a `requires`, but `descriptor::places::leaf_places`, which reads a leaf of a list, and `table::table_of`, which takes a closure: each
+// refuses what it can't read, or is total.
 #![tactic(auto)]
 
 pub mod access;
@@ -12,3 +13,4 @@ pub mod mapfile;
 pub mod number;
 pub mod refusal;
 pub mod setup;
+pub mod table;

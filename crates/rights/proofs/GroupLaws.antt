@@ -1,42 +1,40 @@
 -- An entry of a group has the words of its fields, one before the other: what it does to the number of a word. Fields that the tables of single fields have
 -- together are taken apart, and what is known of the memory goes through every field. Assumes nothing.
 use mathlib.Core.Path.{◌≡◌, refl, sym, ap, ap₂, ◌∙◌}
-use mathlib.Core.Bool.{Bool, true, false, cond, ◌&&◌, and_assoc}
-use mathlib.Core.List.{List, [], ◌∷◌, ◌++◌}
-use Prim.Native.Nat.{ℕ, ◌+◌, ◌*◌, ◌<◌}
+use mathlib.Core.Bool.{Bool, true, false, cond, not, ◌&&◌, and_assoc}
+use mathlib.Core.List.{List, [], ◌∷◌}
+use Prim.Native.Nat.{ℕ, ◌<◌}
 use lib.Bits.{bit_and, bit_or}
-use lib.Dec.{eqb}
-use lib.ListN.{length}
 use Rattle.records.proofs.BitLaws.{and-and, or-or, and-or}
 use Rattle.records.proofs.Cases.{at, each, nth}
 use Rattle.records.specs.Access.{access_of}
-use Rattle.records.specs.Mirror.Places.{group_at}
 use Rattle.records.specs.declared.access.Level.TheVariants.{Privileged, Unprivileged}
 use Rattle.records.specs.declared.access.Right.TheVariants.{Read, Write}
 use Rattle.rights.specs.Direct.{ap as ap_of}
-use Rattle.rights.specs.Mirror.Groups.{after, pair_at, before, masked, known_mask, levels_mask, Grouped}
-use Rattle.rights.specs.Mirror.Parts.{all_mask, one_mask, unknown_mask, state_part, stage2_part, descriptor_part, last_part, direct_word, one_part, known_part, known_number}
-use Rattle.rights.specs.Mirror.Words.{Word, Part, joined, number_of, keep_of, take_of, pairs}
+use Rattle.rights.specs.Mirror.Groups.{before, masked, known_mask, levels_mask, join_in, Grouped}
+use Rattle.rights.specs.Mirror.Parts.{after, pair_at, all_mask, one_mask, state_part, stage2_part, descriptor_part, last_part, direct_word, one_part, known_part, known_number}
+use Rattle.rights.specs.Mirror.Words.{Word, Part, joined, number_of, keep_of, take_of, pair_of, pairs}
 use Rattle.rights.specs.Stage2.{xn_px, xn_ux}
-use Rattle.rights.specs.declared.words.groups.Pair.{Pair}
-use Rattle.rights.proofs.Joins.{join-law, keep_at, take_at}
+use Rattle.rights.specs.declared.words.pair.Pair.{Pair}
+use Rattle.rights.specs.declared.words.pair.Table.{Table}
+use Rattle.rights.proofs.Joins.{join-law, pair-law, entry}
 use Rattle.rights.proofs.WordNumbers.{mask-law, known-number, one-keeps, one-takes, unknown-keeps, known-takes}
 
 -- one before the other
 pub before-after : (p q : Pair) (n : ℕ) → after (before p q) n ≡ after p (after q n)
-unfolding before
+unfolding before after
 before-after p q n =
     sym (or-or p.takes (bit_and p.keeps q.takes) (bit_and (bit_and p.keeps q.keeps) n))
     ∙ ap (bit_or p.takes) (ap (bit_or (bit_and p.keeps q.takes)) (sym (and-and p.keeps q.keeps n)) ∙ sym (and-or p.keeps q.takes (bit_and q.keeps n)))
 
-masked-after : (m : ℕ) (p : Pair) (n : ℕ) → after (masked m p) n ≡ bit_and m (after p n)
-unfolding masked
+masked-after : (m : ℕ) (p : Pair) (n : ℕ) → after (masked p m) n ≡ bit_and m (after p n)
+unfolding masked after
 masked-after m p n =
     ap (bit_or (bit_and m p.takes)) (sym (and-and m p.keeps n)) ∙ sym (and-or m p.takes (bit_and p.keeps n))
 
 -- an entry of a group's table
-pub group-law : (n : ℕ) (f : ℕ → Pair) (g : List ℕ) → Grouped n f g → (k w : ℕ) → k < n → group_at g n k w ≡ after (f k) w
-group-law n f g h k w i = let e = h k i in ap₂ (λ (a b : ℕ). bit_or a (bit_and b w)) e.1 e.0
+pub group-law : (n : ℕ) (f : ℕ → Pair) (g : Table n) → Grouped n f g → (k w : ℕ) → k < n → join_in g k w ≡ after (f k) w
+group-law n f g h k w i = ap (λ (p : Pair). after p w) (h k i)
 
 -- a number is that of a word whose memory is known as k
 abbrev pub Is : ℕ → Bool → Word → Type 0
@@ -60,15 +58,15 @@ through p k w =
     swap false true c = refl
     swap false false c = refl
 
--- a pair of words that are a field's
+-- the pair is a field's
 abbrev pub Of : Pair → Part → Type 0
-Of q p = (q.keeps ≡ keep_of p) × (q.takes ≡ take_of p)
+Of q p = q ≡ pair_of p
 
-pub entry_of : (x y : List ℕ) (n : ℕ) (f : ℕ → Part) (i k : ℕ) → k < n → i ≡ length x + k * 2 → Of (pair_at (x ++ (pairs n f ++ y)) i) (f k)
-entry_of x y n f i k h e = rw e (keep_at x y n f k h, take_at x y n f k h)
+pub entry_of : (n : ℕ) (f : ℕ → Part) (k : ℕ) → k < n → Of (pair_at (pairs n f) k) (f k)
+entry_of = entry
 
 pub step : (q : Pair) (p : Part) → Of q p → (n : ℕ) (k : Bool) (w : Word) → Is n k w → Is (after q n) k (joined p w)
-step q p o n k w h = rw (o.0, o.1, h) (join-law p (joined (known_part k) w) ∙ through p k w)
+step q p o n k w h = rw (o, h) (pair-law p (joined (known_part k) w) ∙ through p k w)
 
 pub two_steps : (q r : Pair) (p t : Part) → Of q p → Of r t → (n : ℕ) (k : Bool) (w : Word) → Is n k w → Is (after (before q r) n) k (joined p (joined t w))
 two_steps q r p t o u n k w h = before-after q r n ∙ step q p o (after r n) k (joined t w) (step r t u n k w h)
@@ -82,19 +80,16 @@ unfolding number_of
 same_number w = refl
 
 -- under the masks
-known-masked : (v : ℕ) (w : Word) → bit_and (known_mask v) (number_of w) ≡ number_of (joined (known_part (eqb v 0)) w)
-known-masked v w = go (eqb v 0)
-  where
-    go : (b : Bool) → bit_and (cond b all_mask unknown_mask) (number_of w) ≡ number_of (joined (known_part b) w)
-    go true = ap (λ (n : ℕ). bit_and n (number_of w)) all-keeps ∙ mask-law (known_part true) w (known-takes true)
-    go false = ap (λ (n : ℕ). bit_and n (number_of w)) unknown-keeps ∙ mask-law (known_part false) w (known-takes false)
+known-masked : (r : Bool) (w : Word) → bit_and (known_mask r) (number_of w) ≡ number_of (joined (known_part (not r)) w)
+known-masked false w = ap (λ (n : ℕ). bit_and n (number_of w)) all-keeps ∙ mask-law (known_part true) w (known-takes true)
+known-masked true w = ap (λ (n : ℕ). bit_and n (number_of w)) unknown-keeps ∙ mask-law (known_part false) w (known-takes false)
 
-pub known_step : (v : ℕ) (q : Pair) (n : ℕ) (k : Bool) (w : Word) → Is (after q n) k w → Is (after (masked (known_mask v) q) n) (eqb v 0 && k) w
-known_step v q n k w h =
-    masked-after (known_mask v) q n ∙ ap (bit_and (known_mask v)) h ∙ known-masked v (joined (known_part k) w)
-    ∙ ap (λ (b : Bool). number_of (record { right = w.right; meets = w.meets; cause = w.cause; codes = w.codes; known = b })) (sym (and_assoc (eqb v 0) k w.known))
+pub known_step : (r : Bool) (q : Pair) (n : ℕ) (k : Bool) (w : Word) → Is (after q n) k w → Is (after (masked q (known_mask r)) n) (not r && k) w
+known_step r q n k w h =
+    masked-after (known_mask r) q n ∙ ap (bit_and (known_mask r)) h ∙ known-masked r (joined (known_part k) w)
+    ∙ ap (λ (b : Bool). number_of (record { right = w.right; meets = w.meets; cause = w.cause; codes = w.codes; known = b })) (sym (and_assoc (not r) k w.known))
 
-pub levels-step : (two : Bool) (q : Pair) (n : ℕ) (k : Bool) (w : Word) → Is (after q n) k w → Is (after (masked (levels_mask two) q) n) k (cond two w (joined one_part w))
+pub levels-step : (two : Bool) (q : Pair) (n : ℕ) (k : Bool) (w : Word) → Is (after q n) k w → Is (after (masked q (levels_mask two)) n) k (cond two w (joined one_part w))
 levels-step true q n k w h =
     masked-after all_mask q n ∙ ap₂ bit_and all-keeps h ∙ mask-law (known_part true) (joined (known_part k) w) (known-takes true) ∙ same_number (joined (known_part k) w)
 levels-step false q n k w h =

@@ -1,33 +1,40 @@
 -- Each stage by groups, from its last field to its first. Assumes nothing.
 use mathlib.Core.Path.{◌≡◌, refl, sym, ap, ap₂, ◌∙◌}
-use mathlib.Core.Bool.{Bool, true, false, cond, ◌&&◌}
-use mathlib.Core.List.{List, [], ◌∷◌, ◌++◌}
+use mathlib.Core.Bool.{Bool, true, false, cond, not, ◌&&◌}
+use Rattle.std.specs.Prelude.{Option, Some, None}
+use mathlib.Core.List.{List, [], ◌∷◌}
 use Prim.Native.Nat.{ℕ, ◌+◌, ◌*◌, ◌/◌, ◌%◌, ◌^◌, ◌<◌}
-use native.Mathlib.Nat.{zero-add, div-div-eq-div-mul}
+use native.Mathlib.Nat.{div-div-eq-div-mul}
 use native.Mathlib.Omega.{arith}
-use lib.Dec.{eqb}
-use lib.ListN.{length, get_or}
+use lib.Dec.{eqb, ltb}
+use lib.ListN.{get_or}
 use Rattle.records.proofs.Cases.{at, each, nth}
 use Rattle.records.proofs.FieldLaws.{limit-bits}
 use Rattle.records.proofs.PlaceLaws.{low2-fields, low1-fields, flag-fields, state-fields, never-fields, ap-bits, codes_at, slots_at}
 use Rattle.records.specs.Access.{access_of, digit}
 use Rattle.records.specs.Bits.{bit, field}
 use Rattle.records.specs.Descriptor.{stage1_of, stage2_of, limits_of, pi_index, po_index, code_at, slot_at}
-use Rattle.records.specs.Mirror.Places.{places_of, group_at, codes_join, slots_join}
+use Rattle.records.specs.Mirror.Places.{places_of, codes_index, slots_index}
 use Rattle.records.specs.declared.access.Level.TheVariants.{Privileged, Unprivileged}
 use Rattle.records.specs.declared.access.Right.TheVariants.{Read, Write}
 use Rattle.records.specs.declared.descriptor.index.PIIndex.{PIIndex}
 use Rattle.records.specs.declared.descriptor.index.POIndex.{POIndex}
+use Rattle.records.specs.declared.descriptor.fields.ByMemory.{ByMemory}
 use Rattle.records.specs.declared.leaf.Leaf.{Leaf}
 use Rattle.records.specs.declared.setup.Control.{Control}
 use Rattle.records.specs.declared.setup.Setup.{Setup}
-use Rattle.rights.specs.Mirror.Groups.{after, pair_at, before, masked, known_mask, levels_mask, state_at, low_pair, flag_pair, state_pair, never_pair, s2ap_word, limits_pair, codes_pair}
-use Rattle.rights.specs.Mirror.Groups.{Grouped, SlotsGrouped, part_of, overlaid, stage2_grouped, slots_grouped, direct_grouped, indirect_grouped}
-use Rattle.rights.specs.Mirror.Parts.{state_part, stage2_part, descriptor_part, last_part, slot_part, stage2_at, last_at, descriptor_at, limits_at, code_part_at, stage_words, slot_words, base_words, join_at}
+use Rattle.rights.specs.Mirror.Groups.{before, masked, known_mask, levels_mask, state_at, low_pair, s2ap_word, slots_pair, join_in, Grouped, SlotsGrouped, part_of, overlaid, IsStage2, IsStage2If, IsDirect, IsIndirect, stage2_grouped, slots_grouped, direct_grouped, indirect_grouped}
+use Rattle.rights.specs.Mirror.Groups as groups
+use Rattle.rights.specs.Mirror.Parts.{state_part, stage2_part, descriptor_part, last_part, slot_part, stage2_at, last_at, descriptor_at, limits_at, code_part_at, after, pair_at, join_at}
+use Rattle.rights.specs.Mirror.Parts.{state1_words, state2_words, permissions2_words, last_words, slot_words, code_words, descriptor_words}
 use Rattle.rights.specs.Mirror.Parts.{slot_if, code_if, direct_number, stage2_word, slots_word, direct_word, descriptor_of, limits_part_of, off_part, one_part, known_part, indirect_word, leaf_word, off_number, levels_number}
 use Rattle.rights.specs.Mirror.Parts as parts
 use Rattle.rights.specs.Mirror.Words.{Word, Part, whole, joined, number_of, pairs}
 use Rattle.rights.specs.Stage2.{xn_px, xn_ux}
+use Rattle.rights.specs.declared.words.groups.DirectGroups.{DirectGroups}
+use Rattle.rights.specs.declared.words.groups.IndirectGroups.{IndirectGroups}
+use Rattle.rights.specs.declared.words.groups.Stage2Groups.{Stage2Groups}
+use Rattle.rights.specs.declared.words.pair.Table.{Table}
 use Rattle.rights.proofs.GroupLaws.{before-after, group-law, Is, same_word, behind, through, same_number, Of, entry_of, step, two_steps, known_step, levels-step, state-apart, direct-apart, stage2-apart}
 use Rattle.rights.proofs.Joins.{join-at}
 use Rattle.rights.proofs.WordNumbers.{whole-number, direct-number, slot-low, code-low, off-number, levels-number}
@@ -47,41 +54,32 @@ state-low false true false = omega arith
 state-low false false true = omega arith
 state-low false false false = omega arith
 
--- they stand after the words x and before the words y
-state-of : (x y : List ℕ) (t f : ℕ) (kept : Bool) (v a d : ℕ) (p q r : Bool) → v ≡ digit p → a ≡ digit q → d ≡ digit r
-    → Of (state_at (x ++ (pairs 8 (parts.state_at t f kept) ++ y)) (length x) v a d) (state_part t f kept p q r)
-state-of x y t f kept v a d p q r e g h =
-    let k = digit p + digit q * 2 + digit r * 4 in
-    rw (e, g, h, ← (state-is t f kept p q r)) (entry_of x y 8 (parts.state_at t f kept) (length x + k * 2) k (state-low p q r) refl)
+state-of : (t f : ℕ) (kept : Bool) (v a d : ℕ) (p q r : Bool) → v ≡ digit p → a ≡ digit q → d ≡ digit r
+    → Of (state_at (pairs 8 (parts.state_at t f kept)) v a d) (state_part t f kept p q r)
+state-of t f kept v a d p q r e g h =
+    rw (e, g, h, ← (state-is t f kept p q r)) (entry_of 8 (parts.state_at t f kept) (digit p + digit q * 2 + digit r * 4) (state-low p q r))
 
-state1-of : (v a d : ℕ) (p q r : Bool) → v ≡ digit p → a ≡ digit q → d ≡ digit r → Of (state_at stage_words 0 v a d) (state_part 11 12 false p q r)
-unfolding stage_words
-state1-of = state-of [] (pairs 8 (parts.state_at 13 14 true) ++ (pairs 16 stage2_at ++ pairs 16 last_at)) 11 12 false
+state1-of : (v a d : ℕ) (p q r : Bool) → v ≡ digit p → a ≡ digit q → d ≡ digit r → Of (state_at state1_words v a d) (state_part 11 12 false p q r)
+unfolding state1_words
+state1-of = state-of 11 12 false
 
-state2-of : (v a d : ℕ) (p q r : Bool) → v ≡ digit p → a ≡ digit q → d ≡ digit r → Of (state_at stage_words 16 v a d) (state_part 13 14 true p q r)
-unfolding stage_words
-state2-of = state-of (pairs 8 (parts.state_at 11 12 false)) (pairs 16 stage2_at ++ pairs 16 last_at) 13 14 true
+state2-of : (v a d : ℕ) (p q r : Bool) → v ≡ digit p → a ≡ digit q → d ≡ digit r → Of (state_at state2_words v a d) (state_part 13 14 true p q r)
+unfolding state2_words
+state2-of = state-of 13 14 true
 
--- STAGE 2: what it knows of the memory, by table m of known memory
-abbrev pub known2 : List ℕ → ℕ → Bool
-known2 m e = eqb (get_or m (16 + (places_of e).low2 % 64 / 4) 0) 0 && (eqb (get_or m (36 + (places_of e).flags % 8 % 4) 0) 0 && true)
+-- STAGE 2: what it knows of the memory, where m has what is refused
+abbrev pub known2 : ByMemory → ℕ → Bool
+known2 m e = not (get_or m.kind ((places_of e).low2 % 64 / 4) false) && (not (get_or m.sh ((places_of e).flags % 8 % 4) false) && true)
 
-module _ (m low flag never s2ap : List ℕ) (hl : Grouped 64 (low_pair stage_words m 16 (levels_mask true) 16) low) (hf : Grouped 8 (flag_pair stage_words m 16 36) flag)
-    (hn : Grouped 16 (never_pair stage_words 16 stage_words 38) never) (hs : s2ap ≡ s2ap_word stage_words 0 ∷ s2ap_word stage_words 1 ∷ s2ap_word stage_words 2 ∷ s2ap_word stage_words 3 ∷ []) (e : ℕ) where
-  xn-of : (x : ℕ) → x < 4 → Of (pair_at stage_words (38 + x * 8)) (stage2_part true true x)
-  unfolding stage_words
+module _ (m : ByMemory) (g : Stage2Groups) (hg : IsStage2 m g) (e : ℕ) where
+  xn-of : (x : ℕ) → x < 4 → Of (pair_at permissions2_words (3 + x * 4)) (stage2_part true true x)
+  unfolding permissions2_words
   xn-of x h =
-      rw (← (at 4 (λ (j : ℕ). stage2_at (3 + j * 4)) (λ (j : ℕ). stage2_part true true j) refl x h))
-      (entry_of (pairs 8 (parts.state_at 11 12 false) ++ pairs 8 (parts.state_at 13 14 true)) (pairs 16 last_at) 16 stage2_at (38 + x * 8) (3 + x * 4) (omega arith) (place x))
-    where
-      place : (x : ℕ) → 38 + x * 8 ≡ 32 + (3 + x * 4) * 2
-      place x = omega arith
+      rw (← (at 4 (λ (j : ℕ). stage2_at (3 + j * 4)) (λ (j : ℕ). stage2_part true true j) refl x h)) (entry_of 16 stage2_at (3 + x * 4) (omega arith))
 
-  s2ap-is : (k : ℕ) → k < 4 → s2ap_word stage_words k ≡ number_of (joined (stage2_at k) whole)
-  unfolding stage_words
-  s2ap-is k h =
-      ap (join_at stage_words (32 + k * 2)) whole-number
-      ∙ join-at (pairs 8 (parts.state_at 11 12 false) ++ pairs 8 (parts.state_at 13 14 true)) (pairs 16 last_at) 16 stage2_at k (omega arith) whole
+  s2ap-is : (k : ℕ) → k < 4 → s2ap_word k ≡ number_of (joined (stage2_at k) whole)
+  unfolding permissions2_words
+  s2ap-is k h = ap (join_at permissions2_words k) whole-number ∙ join-at 16 stage2_at k (omega arith) whole
 
   s2ap-part : (k : ℕ) → k < 4 → stage2_at k ≡ stage2_part (bit k 0) (bit k 1) 0
   unfolding xn_px xn_ux
@@ -90,73 +88,129 @@ module _ (m low flag never s2ap : List ℕ) (hl : Grouped 64 (low_pair stage_wor
   abbrev part2 : Word
   part2 = joined (state_part 13 14 true (bit e 0) (bit e 10) (bit e 51)) (joined (stage2_part (bit e 6) (bit e 7) (field e 53 2)) whole)
 
-  on-groups : Is (group_at low 64 ((places_of e).low2 % 64) (group_at flag 8 ((places_of e).flags % 8) (group_at never 16 ((places_of e).never % 16) (get_or s2ap ((places_of e).ap % 4) 0)))) (known2 m e) part2
+  on-groups : Is (groups.stage2_at g (places_of e)) (known2 m e) part2
+  unfolding groups.stage2_at
   on-groups =
       let p = places_of e in
       let i0 = p.ap % 4 in
       let b = ap-bits e in
-      let g = flag-fields e in
+      let f = flag-fields e in
       let v = never-fields e in
       let x = field e 53 2 in
       let last = joined (stage2_part (bit e 6) (bit e 7) 0) whole in
-      let n0 = get_or s2ap i0 0 in
+      let n0 = get_or g.s2ap i0 0 in
       let h0 : Is n0 true last =
-      rw hs (at 4 (λ (j : ℕ). get_or (s2ap_word stage_words 0 ∷ s2ap_word stage_words 1 ∷ s2ap_word stage_words 2 ∷ s2ap_word stage_words 3 ∷ []) j 0) (s2ap_word stage_words) refl i0 (omega arith))
+      hg.s2ap i0 (omega arith)
       ∙ s2ap-is i0 (omega arith) ∙ ap (λ (q : Part). number_of (joined q whole)) (s2ap-part i0 (omega arith) ∙ ap₂ (λ (r w : Bool). stage2_part r w 0) b.0 b.1) ∙ sym (same_number last) in
       let i1 = p.never % 16 in
-      let n1 = group_at never 16 i1 n0 in
+      let n1 = join_in g.never i1 n0 in
       let w1 = joined (stage2_part true true x) last in
       let s1 = state_part 13 14 true true true (bit e 51) in
       let h1 : Is n1 true (joined s1 w1) =
-      group-law 16 _ never hn i1 n0 (omega arith)
-      ∙ two_steps (state_at stage_words 16 1 1 (i1 % 2)) (pair_at stage_words (38 + i1 / 4 * 8)) s1 (stage2_part true true x)
+      group-law 16 _ g.never hg.never i1 n0 (omega arith)
+      ∙ two_steps (state_at state2_words 1 1 (i1 % 2)) (pair_at permissions2_words (3 + i1 / 4 * 4)) s1 (stage2_part true true x)
       (state2-of 1 1 (i1 % 2) true true (bit e 51) refl refl v.0) (rw v.1 (xn-of x (omega arith))) n0 true last h0 in
       let i2 = p.flags % 8 in
-      let n2 = group_at flag 8 i2 n1 in
+      let n2 = join_in g.flags i2 n1 in
       let s2 = state_part 13 14 true true (bit e 10) false in
       let w2 = joined s2 (joined s1 w1) in
-      let k2 = eqb (get_or m (36 + i2 % 4) 0) 0 && true in
-      let q2 = state_at stage_words 16 1 (i2 / 4) 0 in
+      let r2 = get_or m.sh (i2 % 4) false in
+      let k2 = not r2 && true in
+      let q2 = state_at state2_words 1 (i2 / 4) 0 in
       let h2 : Is n2 k2 w2 =
-      group-law 8 _ flag hf i2 n1 (omega arith)
-      ∙ known_step (get_or m (36 + i2 % 4) 0) q2 n1 true w2 (step q2 s2 (state2-of 1 (i2 / 4) 0 true (bit e 10) false refl g.0 refl) n1 true (joined s1 w1) h1) in
+      group-law 8 _ g.flags hg.flags i2 n1 (omega arith)
+      ∙ known_step r2 q2 n1 true w2 (step q2 s2 (state2-of 1 (i2 / 4) 0 true (bit e 10) false refl f.0 refl) n1 true (joined s1 w1) h1) in
       let i3 = p.low2 % 64 in
-      let n3 = group_at low 64 i3 n2 in
+      let n3 = join_in g.low i3 n2 in
       let s3 = state_part 13 14 true (bit e 0) true false in
       let w3 = joined s3 w2 in
-      let q3 = state_at stage_words 16 (i3 % 2) 1 0 in
+      let q3 = state_at state2_words (i3 % 2) 1 0 in
+      let r3 = get_or m.kind (i3 / 4) false in
       let h3 : Is n3 (known2 m e) w3 =
-      group-law 64 _ low hl i3 n2 (omega arith)
-      ∙ levels-step true (masked (known_mask (get_or m (16 + i3 / 4) 0)) q3) n2 (known2 m e) w3
-      (known_step (get_or m (16 + i3 / 4) 0) q3 n2 k2 w3 (step q3 s3 (state2-of (i3 % 2) 1 0 (bit e 0) true false (low2-fields e).0 refl refl) n2 k2 w2 h2)) in
+      group-law 64 _ g.low hg.low i3 n2 (omega arith)
+      ∙ levels-step true (masked q3 (known_mask r3)) n2 (known2 m e) w3
+      (known_step r3 q3 n2 k2 w3 (step q3 s3 (state2-of (i3 % 2) 1 0 (bit e 0) true false (low2-fields e).0 refl refl) n2 k2 w2 h2)) in
       same_word n3 (known2 m e) w3 part2
       (state-apart 13 14 true (bit e 0) (bit e 10) (bit e 51) w1 ∙ behind (state_part 13 14 true (bit e 0) (bit e 10) (bit e 51)) _ _ (stage2-apart (bit e 6) (bit e 7) x whole (omega arith))) h3
 
-  pub stage2-groups : (on : Bool) → Is (stage2_grouped low flag never s2ap on (places_of e)) (cond on (known2 m e) true) (stage2_word on (stage2_of e))
-  unfolding stage2_grouped stage2_of
-  stage2-groups true = on-groups
-  stage2-groups false = whole-number ∙ sym (same_number whole)
+pub stage2-groups : (m : ByMemory) (on : Bool) (g : Option Stage2Groups) → IsStage2If m on g → (e : ℕ) → Is (stage2_grouped g (places_of e)) (cond on (known2 m e) true) (stage2_word on (stage2_of e))
+unfolding stage2_of
+stage2-groups m on (Some g) h e = rw (← h.0) (on-groups m g (h.1 g refl) e)
+stage2-groups m on None h e = rw (← h.0) (whole-number ∙ sym (same_number whole))
 
 -- STAGE 1's first fields: valid with AttrIndx, AF with SH, under the mask of the levels
-module _ (m low : List ℕ) (two : Bool) (hl : Grouped 64 (low_pair stage_words m 0 (levels_mask two) 0) low) (d : ℕ) where
+module _ (m : ByMemory) (low : Table 64) (two : Bool) (hl : Grouped 64 (low_pair state1_words m (levels_mask two)) low) (d : ℕ) where
   low1 : (n : ℕ) (k : Bool) (w : Word) → Is n k w → let z = joined (state_part 11 12 false (bit d 0) true false) w in
-      Is (group_at low 64 ((places_of d).low1 % 64) n) (eqb (get_or m (0 + (places_of d).low1 % 64 / 4) 0) 0 && k) (cond two z (joined one_part z))
+      Is (join_in low ((places_of d).low1 % 64) n) (not (get_or m.kind ((places_of d).low1 % 64 / 4) false) && k) (cond two z (joined one_part z))
   low1 n k w h =
       let i = (places_of d).low1 % 64 in
       let z = joined (state_part 11 12 false (bit d 0) true false) w in
-      let q = state_at stage_words 0 (i % 2) 1 0 in
+      let q = state_at state1_words (i % 2) 1 0 in
+      let r = get_or m.kind (i / 4) false in
       group-law 64 _ low hl i n (omega arith)
-      ∙ levels-step two (masked (known_mask (get_or m (0 + i / 4) 0)) q) n (eqb (get_or m (0 + i / 4) 0) 0 && k) z
-      (known_step (get_or m (0 + i / 4) 0) q n k z (step q (state_part 11 12 false (bit d 0) true false) (state1-of (i % 2) 1 0 (bit d 0) true false (low1-fields d).0 refl refl) n k w h))
+      ∙ levels-step two (masked q (known_mask r)) n (not r && k) z
+      (known_step r q n k z (step q (state_part 11 12 false (bit d 0) true false) (state1-of (i % 2) 1 0 (bit d 0) true false (low1-fields d).0 refl refl) n k w h))
 
 -- words with the same number have it with one level too
 levels-same : (two : Bool) (w v : Word) → number_of w ≡ number_of v → number_of (cond two w (joined one_part w)) ≡ number_of (cond two v (joined one_part v))
 levels-same true w v e = e
 levels-same false w v e = behind one_part w v e
 
+-- THE SLOTS, where p and u are whether overlays apply to the base rights of either level
+part-fields : (p u : Bool) → (part_of p u % 64 / 16 * 16 ≡ part_of p u)
+    × ((k : ℕ) → k < 16 → (k + part_of p u < 64) × ((k + part_of p u) / 16 % 2 ≡ digit p) × ((k + part_of p u) / 32 ≡ digit u))
+part-fields true true = (refl, λ k h. (omega arith, omega arith, omega arith))
+part-fields true false = (refl, λ k h. (omega arith, omega arith, omega arith))
+part-fields false true = (refl, λ k h. (omega arith, omega arith, omega arith))
+part-fields false false = (refl, λ k h. (omega arith, omega arith, omega arith))
+
+one-digit : (b : Bool) → eqb (digit b) 1 ≡ b
+one-digit true = refl
+one-digit false = refl
+
+module _ (s : Setup) (d : ℕ) (p u : Bool) where
+  abbrev pslot : ℕ
+  pslot = slot_if (s.control.overlay.privileged && p) (slot_at s.por.privileged (po_index d))
+
+  abbrev uslot : ℕ
+  uslot = slot_if (s.control.overlay.unprivileged && u) (slot_at s.por.unprivileged (po_index d))
+
+  pslot-of : Of (pair_at (slot_words Privileged) pslot) (slot_part Privileged pslot)
+  unfolding slot_words
+  pslot-of = entry_of 16 (slot_part Privileged) pslot (slot-low (s.control.overlay.privileged && p) (slot_at s.por.privileged (po_index d)))
+
+  uslot-of : Of (pair_at (slot_words Unprivileged) uslot) (slot_part Unprivileged uslot)
+  unfolding slot_words
+  uslot-of = entry_of 16 (slot_part Unprivileged) uslot (slot-low (s.control.overlay.unprivileged && u) (slot_at s.por.unprivileged (po_index d)))
+
+  both : (slots : Table 64) → Grouped 64 (slots_pair s) slots → (n : ℕ) (k : Bool) (w : Word) → Is n k w
+      → Is (join_in slots (slots_index (places_of d).slots (part_of p u)) n) k (joined (slot_part Privileged pslot) (joined (slot_part Unprivileged uslot) w))
+  both slots hs n k w h =
+      let f = part-fields p u in
+      let a = slots_at d (part_of p u) f.0 in
+      let i = a.0 + part_of p u in
+      let g = f.1 a.0 a.1 in
+      ap (λ (j : ℕ). join_in slots j n) a.2 ∙ group-law 64 _ slots hs i n g.0
+      ∙ ap (λ (j : POIndex). by j (eqb (i / 16 % 2) 1) (eqb (i / 32) 1)) a.3
+      ∙ ap₂ (by (po_index d)) (ap (λ (x : ℕ). eqb x 1) g.1 ∙ one-digit p) (ap (λ (x : ℕ). eqb x 1) g.2 ∙ one-digit u)
+      ∙ two_steps (pair_at (slot_words Privileged) pslot) (pair_at (slot_words Unprivileged) uslot) (slot_part Privileged pslot) (slot_part Unprivileged uslot) pslot-of uslot-of n k w h
+    where
+      by : POIndex → Bool → Bool → ℕ
+      by i a b =
+          after (before (pair_at (slot_words Privileged) (slot_if (s.control.overlay.privileged && a) (slot_at s.por.privileged i)))
+          (pair_at (slot_words Unprivileged) (slot_if (s.control.overlay.unprivileged && b) (slot_at s.por.unprivileged i)))) n
+
+  slots-groups : (g : Option (Table 64)) → SlotsGrouped s g → (n : ℕ) (k : Bool) (w : Word) → Is n k w
+      → Is (slots_grouped g (places_of d).slots (part_of p u) n) k (slots_word s (stage1_of d) p u w)
+  unfolding stage1_of
+  slots-groups (Some g) hs n k w h = rw hs.0 (both g hs.1 n k w h)
+  slots-groups None hs n k w h = rw hs h
+
 -- DIRECT
-module _ (c : Control) (m low flag never limits : List ℕ) (hl : Grouped 64 (low_pair stage_words m 0 (levels_mask c.two) 0) low) (hf : Grouped 8 (flag_pair stage_words m 0 32) flag)
-    (hn : Grouped 16 (never_pair stage_words 0 (base_words false c.two) 2) never) (hm : Grouped 64 (limits_pair (base_words false c.two) stage_words c) limits) (d t : ℕ) where
+module _ (s : Setup) (m : ByMemory) (g : DirectGroups) (hg : IsDirect s m g) (d t : ℕ) where
+  abbrev c : Control
+  c = s.control
+
   -- AP by itself
   abbrev ap_of : ℕ
   ap_of = (places_of d).ap % 4
@@ -168,16 +222,16 @@ module _ (c : Control) (m low flag never limits : List ℕ) (hl : Grouped 64 (lo
   second = limits_part_of c (limits_of (t % 16))
 
   -- AP and the limits
-  limits-is : (n : ℕ) → group_at limits 64 (ap_of + t % 16 * 4) n ≡ direct_number (base_words false c.two) stage_words c (ap_of * 2 ^ 6) (t % 16) n
-  unfolding direct_number join_at
+  limits-is : (n : ℕ) → join_in g.limits (ap_of + t % 16 * 4) n ≡ direct_number c (ap_of * 2 ^ 6) (t % 16) n
+  unfolding direct_number
   limits-is n =
       let k = ap_of + t % 16 * 4 in
       let i : k % 4 ≡ ap_of = omega arith in
       let j : k / 4 ≡ t % 16 = omega arith in
       let q : (ap_of * 2 ^ 6) / 2 ^ 6 % 2 ^ 2 + (ap_of * 2 ^ 6) / 2 ^ 53 % 2 ^ 2 * 4 ≡ ap_of = omega arith in
-      group-law 64 _ limits hm k n (omega arith)
+      group-law 64 _ g.limits hg.limits k n (omega arith)
       ∙ rw (i, j, q)
-      (before-after _ _ n ∙ ap (after (pair_at (base_words false c.two) (ap_of * 2))) (before-after _ _ n))
+      (before-after _ _ n ∙ ap (after (pair_at (descriptor_words c.two) ap_of)) (before-after _ _ n))
 
   -- what is known goes through these three
   through-three : (k : Bool) (w : Word) → number_of (direct_word c.wxn c.pan first second (joined (known_part k) w)) ≡ number_of (joined (known_part k) (direct_word c.wxn c.pan first second w))
@@ -220,14 +274,14 @@ module _ (c : Control) (m low flag never limits : List ℕ) (hl : Grouped 64 (lo
   abbrev never-part : Part
   never-part = descriptor_part c.two true false (bit d 53) (bit d 54)
 
-  never-of : Of (pair_at (base_words false c.two) (2 + field d 53 2 * 8)) never-part
-  unfolding base_words
+  never-of : Of (pair_at (descriptor_words c.two) (1 + field d 53 2 * 4)) never-part
+  unfolding descriptor_words
   never-of =
       let x = field d 53 2 in
       let e0 : bit x 0 ≡ bit d 53 = ap (λ (n : ℕ). eqb n 1) (lower (d / 2 ^ 53)) in
       let e1 : bit x 1 ≡ bit d 54 = ap (λ (n : ℕ). eqb n 1) (upper (d / 2 ^ 53) ∙ ap (λ (n : ℕ). n % 2) (div-div-eq-div-mul d (2 ^ 53) 2)) in
       rw (← e0, ← e1, ← (at 4 (λ (j : ℕ). descriptor_at c.two (1 + j * 4)) (λ (j : ℕ). descriptor_part c.two true false (bit j 0) (bit j 1)) refl x (omega arith)))
-      (entry_of [] (pairs 16 (limits_at c.two)) 16 (descriptor_at c.two) (2 + x * 8) (1 + x * 4) (omega arith) (place x))
+      (entry_of 16 (descriptor_at c.two) (1 + x * 4) (omega arith))
     where
       lower : (y : ℕ) → y % 2 ^ 2 / 2 ^ 0 % 2 ≡ y % 2
       lower y = omega arith
@@ -235,70 +289,73 @@ module _ (c : Control) (m low flag never limits : List ℕ) (hl : Grouped 64 (lo
       upper : (y : ℕ) → y % 2 ^ 2 / 2 ^ 1 % 2 ≡ y / 2 % 2
       upper y = omega arith
 
-      place : (x : ℕ) → 2 + x * 8 ≡ 0 + (1 + x * 4) * 2
-      place x = omega arith
-
   pub direct-groups : (n : ℕ) (k : Bool) (w : Word) → Is n k w
-      → let z = joined (state_part 11 12 false (bit d 0) (bit d 10) (bit d 51)) (direct_word c.wxn c.pan (descriptor_of c (stage1_of d)) (limits_part_of c (limits_of t)) w) in
-      Is (direct_grouped low flag never limits (places_of d) t n) (eqb (get_or m (0 + (places_of d).low1 % 64 / 4) 0) 0 && (eqb (get_or m (32 + (places_of d).flags % 8 % 4) 0) 0 && k)) (cond c.two z (joined one_part z))
+      → let z = joined (state_part 11 12 false (bit d 0) (bit d 10) (bit d 51)) (direct_word c.wxn c.pan (descriptor_of c (stage1_of d)) (limits_part_of c (limits_of t)) (slots_word s (stage1_of d) true true w)) in
+      Is (direct_grouped g (places_of d) t n) (not (get_or m.kind ((places_of d).low1 % 64 / 4) false) && (not (get_or m.sh ((places_of d).flags % 8 % 4) false) && k)) (cond c.two z (joined one_part z))
   unfolding direct_grouped stage1_of
   direct-groups n k w h =
       let p = places_of d in
       let v = never-fields d in
       let x = p.never % 16 in
-      let g = p.flags % 8 in
-      let n1 = group_at limits 64 (ap_of + t % 16 * 4) n in
-      let w1 = direct_word c.wxn c.pan first second w in
+      let f = p.flags % 8 in
+      let n0 = slots_grouped g.slots p.slots 48 n in
+      let w0 = slots_word s (stage1_of d) true true w in
+      let i0 : Is n0 k w0 = slots-groups s d true true g.slots hg.slots n k w h in
+      let n1 = join_in g.limits (ap_of + t % 16 * 4) n0 in
+      let w1 = direct_word c.wxn c.pan first second w0 in
       let i1 : Is n1 k w1 =
-      limits-is n ∙ ap (direct_number (base_words false c.two) stage_words c (ap_of * 2 ^ 6) (t % 16)) h ∙ direct-number c (ap_of * 2 ^ 6) (t % 16) (joined (known_part k) w) ∙ through-three k w in
-      let n2 = group_at never 16 x n1 in
+      limits-is n0 ∙ ap (direct_number c (ap_of * 2 ^ 6) (t % 16)) i0 ∙ direct-number c (ap_of * 2 ^ 6) (t % 16) (joined (known_part k) w0) ∙ through-three k w0 in
+      let n2 = join_in g.never x n1 in
       let s3 = state_part 11 12 false true true (bit d 51) in
       let w2 = joined s3 (joined never-part w1) in
       let i2 : Is n2 k w2 =
-      group-law 16 _ never hn x n1 (omega arith)
-      ∙ two_steps (state_at stage_words 0 1 1 (x % 2)) (pair_at (base_words false c.two) (2 + x / 4 * 8)) s3 never-part
+      group-law 16 _ g.never hg.never x n1 (omega arith)
+      ∙ two_steps (state_at state1_words 1 1 (x % 2)) (pair_at (descriptor_words c.two) (1 + x / 4 * 4)) s3 never-part
       (state1-of 1 1 (x % 2) true true (bit d 51) refl refl v.0) (rw v.1 never-of) n1 k w1 i1 in
-      let n3 = group_at flag 8 g n2 in
+      let n3 = join_in g.flags f n2 in
       let s2 = state_part 11 12 false true (bit d 10) false in
       let w3 = joined s2 w2 in
-      let q = state_at stage_words 0 1 (g / 4) 0 in
-      let k3 = eqb (get_or m (32 + g % 4) 0) 0 && k in
+      let q = state_at state1_words 1 (f / 4) 0 in
+      let r = get_or m.sh (f % 4) false in
+      let k3 = not r && k in
       let i3 : Is n3 k3 w3 =
-      group-law 8 _ flag hf g n2 (omega arith)
-      ∙ known_step (get_or m (32 + g % 4) 0) q n2 k w3 (step q s2 (state1-of 1 (g / 4) 0 true (bit d 10) false refl (flag-fields d).0 refl) n2 k w2 i2) in
+      group-law 8 _ g.flags hg.flags f n2 (omega arith)
+      ∙ known_step r q n2 k w3 (step q s2 (state1-of 1 (f / 4) 0 true (bit d 10) false refl (flag-fields d).0 refl) n2 k w2 i2) in
       let w4 = joined (state_part 11 12 false (bit d 0) true false) w3 in
-      let z = joined (state_part 11 12 false (bit d 0) (bit d 10) (bit d 51)) (direct_word c.wxn c.pan (descriptor_of c (stage1_of d)) (limits_part_of c (limits_of t)) w) in
+      let z = joined (state_part 11 12 false (bit d 0) (bit d 10) (bit d 51)) (direct_word c.wxn c.pan (descriptor_of c (stage1_of d)) (limits_part_of c (limits_of t)) w0) in
       let e : number_of w4 ≡ number_of z =
       state-apart 11 12 false (bit d 0) (bit d 10) (bit d 51) (joined never-part w1)
       ∙ behind (state_part 11 12 false (bit d 0) (bit d 10) (bit d 51)) _ _
-      (ap₂ (λ (f l : Part). number_of (joined never-part (direct_word c.wxn c.pan f l w))) ap-is second_is
-      ∙ direct-apart c.wxn c.pan c.two (bit d 6) (bit d 7) (bit d 53) (bit d 54) (limits_part_of c (limits_of t)) w) in
-      same_word _ (eqb (get_or m (0 + p.low1 % 64 / 4) 0) 0 && k3) (cond c.two w4 (joined one_part w4)) (cond c.two z (joined one_part z)) (levels-same c.two w4 z e)
-      (low1 m low c.two hl d n3 k3 w3 i3)
+      (ap₂ (λ (f l : Part). number_of (joined never-part (direct_word c.wxn c.pan f l w0))) ap-is second_is
+      ∙ direct-apart c.wxn c.pan c.two (bit d 6) (bit d 7) (bit d 53) (bit d 54) (limits_part_of c (limits_of t)) w0) in
+      same_word _ (not (get_or m.kind (p.low1 % 64 / 4) false) && k3) (cond c.two w4 (joined one_part w4)) (cond c.two z (joined one_part z)) (levels-same c.two w4 z e)
+      (low1 m g.low c.two hg.low d n3 k3 w3 i3)
 
 -- INDIRECT
-module _ (s : Setup) (m low state codes : List ℕ) (hl : Grouped 64 (low_pair stage_words m 0 (levels_mask s.control.two) 0) low) (hs : Grouped 16 (state_pair stage_words m 32) state)
-    (hc : Grouped 32 (codes_pair (base_words true s.control.two) s) codes) (d : ℕ) where
-  abbrev table : List ℕ
-  table = base_words true s.control.two
-
+module _ (s : Setup) (m : ByMemory) (g : IndirectGroups) (hg : IsIndirect s m g) (d t : ℕ) where
   abbrev pcode : ℕ
   pcode = code_at s.pir.privileged (pi_index d) % 16
 
   abbrev ucode : ℕ
-  ucode = code_if s.control.two (code_at s.pir.unprivileged (pi_index d))
+  ucode = code_at s.pir.unprivileged (pi_index d)
 
-  privileged-of : Of (pair_at table (pcode * 2)) (code_part_at Privileged pcode)
-  unfolding base_words
-  privileged-of = entry_of [] (pairs 16 (code_part_at Unprivileged)) 16 (code_part_at Privileged) (pcode * 2) pcode (omega arith) (sym (zero-add (pcode * 2)))
+  privileged-of : Of (pair_at (code_words Privileged) pcode) (code_part_at Privileged pcode)
+  unfolding code_words
+  privileged-of = entry_of 16 (code_part_at Privileged) pcode (omega arith)
 
-  unprivileged-of : Of (pair_at table (32 + ucode * 2)) (code_part_at Unprivileged ucode)
-  unfolding base_words
-  unprivileged-of = entry_of (pairs 16 (code_part_at Privileged)) [] 16 (code_part_at Unprivileged) (32 + ucode * 2) ucode (code-low s.control.two (code_at s.pir.unprivileged (pi_index d))) refl
+  unprivileged-of : Of (pair_at (code_words Unprivileged) (code_if s.control.two ucode)) (code_part_at Unprivileged (code_if s.control.two ucode))
+  unfolding code_words
+  unprivileged-of = entry_of 16 (code_part_at Unprivileged) (code_if s.control.two ucode) (code-low s.control.two ucode)
+
+  -- the part of a leaf's slots
+  part-is : get_or g.applies (codes_index (places_of d).codes) 0 ≡ part_of (ltb pcode 8) (ltb ucode 8)
+  part-is =
+      let a = codes_at d in
+      hg.applies _ a.0 ∙ ap (λ (i : PIIndex). part_of (ltb (code_at s.pir.privileged i % 16) 8) (ltb (code_at s.pir.unprivileged i) 8)) a.1
 
   pub indirect-groups : (n : ℕ) (k : Bool) (w : Word) → Is n k w
-      → let z = joined (state_part 11 12 false (bit d 0) (bit d 10) (bit d 7)) (joined (code_part_at Privileged pcode) (joined (code_part_at Unprivileged ucode) w)) in
-      Is (indirect_grouped low state codes (places_of d) n) (eqb (get_or m (0 + (places_of d).low1 % 64 / 4) 0) 0 && (eqb (get_or m (32 + (places_of d).state % 16 / 2 % 4) 0) 0 && k))
+      → let z = joined (state_part 11 12 false (bit d 0) (bit d 10) (bit d 7)) (indirect_word s (stage1_of d) pcode ucode w) in
+      Is (indirect_grouped g (places_of d) t n) (not (get_or m.kind ((places_of d).low1 % 64 / 4) false) && (not (get_or m.sh ((places_of d).state % 16 / 2 % 4) false) && k))
       (cond s.control.two z (joined one_part z))
   unfolding indirect_grouped
   indirect-groups n k w h =
@@ -306,81 +363,33 @@ module _ (s : Setup) (m low state codes : List ℕ) (hl : Grouped 64 (low_pair s
       let f = state-fields d in
       let a = codes_at d in
       let two = s.control.two in
-      let n1 = codes_join codes p.codes n in
-      let w1 = joined (code_part_at Privileged pcode) (joined (code_part_at Unprivileged ucode) w) in
+      let i = codes_index p.codes in
+      let n0 = slots_grouped g.slots p.slots (get_or g.applies i 0) n in
+      let w0 = slots_word s (stage1_of d) (ltb pcode 8) (ltb ucode 8) w in
+      let i0 : Is n0 k w0 = ap (λ (x : ℕ). slots_grouped g.slots p.slots x n) part-is ∙ slots-groups s d (ltb pcode 8) (ltb ucode 8) g.slots hg.slots n k w h in
+      let n1 = join_in g.codes i n0 in
+      let w1 = joined (code_part_at Privileged pcode) (joined (code_part_at Unprivileged (code_if two ucode)) w0) in
       let i1 : Is n1 k w1 =
-      a.2 codes n ∙ group-law 32 _ codes hc a.0 n a.1
-      ∙ ap (λ (i : PIIndex). after (before (pair_at table (code_at s.pir.privileged i % 16 * 2)) (pair_at table (32 + code_if two (code_at s.pir.unprivileged i) * 2))) n) a.4
-      ∙ two_steps (pair_at table (pcode * 2)) (pair_at table (32 + ucode * 2)) (code_part_at Privileged pcode) (code_part_at Unprivileged ucode) privileged-of unprivileged-of n k w h in
-      let g = p.state % 16 in
-      let n2 = group_at state 16 g n1 in
+      group-law 32 _ g.codes hg.codes i n0 a.0
+      ∙ ap (λ (i : PIIndex). after (before (pair_at (code_words Privileged) (code_at s.pir.privileged i % 16)) (pair_at (code_words Unprivileged) (code_if two (code_at s.pir.unprivileged i)))) n0) a.1
+      ∙ two_steps (pair_at (code_words Privileged) pcode) (pair_at (code_words Unprivileged) (code_if two ucode)) (code_part_at Privileged pcode) (code_part_at Unprivileged (code_if two ucode)) privileged-of unprivileged-of n0 k w0 i0 in
+      let j = p.state % 16 in
+      let n2 = join_in g.state j n1 in
       let s2 = state_part 11 12 false true (bit d 10) false in
       let s3 = state_part 11 12 false true true (bit d 7) in
       let w2 = joined s2 (joined s3 w1) in
-      let q2 = state_at stage_words 0 1 (g / 8) 0 in
-      let q3 = state_at stage_words 0 1 1 (g % 2) in
-      let k2 = eqb (get_or m (32 + g / 2 % 4) 0) 0 && k in
+      let q2 = state_at state1_words 1 (j / 8) 0 in
+      let q3 = state_at state1_words 1 1 (j % 2) in
+      let r = get_or m.sh (j / 2 % 4) false in
+      let k2 = not r && k in
       let i2 : Is n2 k2 w2 =
-      group-law 16 _ state hs g n1 (omega arith)
-      ∙ known_step (get_or m (32 + g / 2 % 4) 0) (before q2 q3) n1 k w2
-      (two_steps q2 q3 s2 s3 (state1-of 1 (g / 8) 0 true (bit d 10) false refl f.2 refl) (state1-of 1 1 (g % 2) true true (bit d 7) refl refl f.0) n1 k w1 i1) in
+      group-law 16 _ g.state hg.state j n1 (omega arith)
+      ∙ known_step r (before q2 q3) n1 k w2
+      (two_steps q2 q3 s2 s3 (state1-of 1 (j / 8) 0 true (bit d 10) false refl f.2 refl) (state1-of 1 1 (j % 2) true true (bit d 7) refl refl f.0) n1 k w1 i1) in
       let w3 = joined (state_part 11 12 false (bit d 0) true false) w2 in
       let z = joined (state_part 11 12 false (bit d 0) (bit d 10) (bit d 7)) w1 in
-      same_word _ (eqb (get_or m (0 + p.low1 % 64 / 4) 0) 0 && k2) (cond two w3 (joined one_part w3)) (cond two z (joined one_part z)) (levels-same two w3 z (state-apart 11 12 false (bit d 0) (bit d 10) (bit d 7) w1))
-      (low1 m low two hl d n2 k2 w2 i2)
-
--- THE SLOTS, where p and u are whether overlays apply to the base rights of either level
-part-fields : (p u : Bool) → (part_of p u % 64 / 16 * 16 ≡ part_of p u)
-    × ((k : ℕ) → k < 16 → (k + part_of p u < 64) × ((k + part_of p u) / 16 % 2 ≡ digit p) × ((k + part_of p u) / 32 ≡ digit u))
-part-fields true true = (refl, λ k h. (omega arith, omega arith, omega arith))
-part-fields true false = (refl, λ k h. (omega arith, omega arith, omega arith))
-part-fields false true = (refl, λ k h. (omega arith, omega arith, omega arith))
-part-fields false false = (refl, λ k h. (omega arith, omega arith, omega arith))
-
-one-digit : (b : Bool) → eqb (digit b) 1 ≡ b
-one-digit true = refl
-one-digit false = refl
-
-module _ (s : Setup) (slots : List ℕ) (ho : SlotsGrouped slot_words s slots) (d : ℕ) (p u : Bool) where
-  abbrev pslot : ℕ
-  pslot = slot_if (s.control.overlay.privileged && p) (slot_at s.por.privileged (po_index d))
-
-  abbrev uslot : ℕ
-  uslot = slot_if (s.control.overlay.unprivileged && u) (slot_at s.por.unprivileged (po_index d))
-
-  pslot-of : Of (pair_at slot_words (pslot * 2)) (slot_part Privileged pslot)
-  unfolding slot_words
-  pslot-of =
-      entry_of [] (pairs 16 (slot_part Unprivileged)) 16 (slot_part Privileged) (pslot * 2) pslot (slot-low (s.control.overlay.privileged && p) (slot_at s.por.privileged (po_index d))) (sym (zero-add (pslot * 2)))
-
-  uslot-of : Of (pair_at slot_words (32 + uslot * 2)) (slot_part Unprivileged uslot)
-  unfolding slot_words
-  uslot-of =
-      entry_of (pairs 16 (slot_part Privileged)) [] 16 (slot_part Unprivileged) (32 + uslot * 2) uslot (slot-low (s.control.overlay.unprivileged && u) (slot_at s.por.unprivileged (po_index d))) refl
-
-  pub slots-groups : (n : ℕ) (k : Bool) (w : Word) → Is n k w → Is (slots_grouped slots (overlaid s) (places_of d).slots (part_of p u) n) k (slots_word s (stage1_of d) p u w)
-  unfolding stage1_of
-  slots-groups n k w h = go (overlaid s) refl
-    where
-      by : POIndex → Bool → Bool → ℕ
-      by i a b =
-          after (before (pair_at slot_words (slot_if (s.control.overlay.privileged && a) (slot_at s.por.privileged i) * 2)) (pair_at slot_words (32 + slot_if (s.control.overlay.unprivileged && b) (slot_at s.por.unprivileged i) * 2))) n
-
-      both : overlaid s ≡ true → Is (slots_join slots (places_of d).slots (part_of p u) n) k (joined (slot_part Privileged pslot) (joined (slot_part Unprivileged uslot) w))
-      both e =
-          let f = part-fields p u in
-          let a = slots_at d (part_of p u) f.0 in
-          let i = a.0 + part_of p u in
-          let g = f.1 a.0 a.1 in
-          a.2 slots n ∙ group-law 64 _ slots (ho e) i n g.0
-          ∙ ap (λ (j : POIndex). by j (eqb (i / 16 % 2) 1) (eqb (i / 32) 1)) a.3
-          ∙ ap₂ (by (po_index d)) (ap (λ (x : ℕ). eqb x 1) g.1 ∙ one-digit p) (ap (λ (x : ℕ). eqb x 1) g.2 ∙ one-digit u)
-          ∙ two_steps (pair_at slot_words (pslot * 2)) (pair_at slot_words (32 + uslot * 2)) (slot_part Privileged pslot) (slot_part Unprivileged uslot) pslot-of uslot-of n k w h
-
-      go : (on : Bool) → overlaid s ≡ on
-          → Is (cond on (slots_join slots (places_of d).slots (part_of p u) n) n) k (cond on (joined (slot_part Privileged pslot) (joined (slot_part Unprivileged uslot) w)) w)
-      go true e = both e
-      go false e = h
+      same_word _ (not (get_or m.kind (p.low1 % 64 / 4) false) && k2) (cond two w3 (joined one_part w3)) (cond two z (joined one_part z)) (levels-same two w3 z (state-apart 11 12 false (bit d 0) (bit d 10) (bit d 7) w1))
+      (low1 m g.low two hg.low d n2 k2 w2 i2)
 
 -- STAGE 1 OFF
 pub off-groups : (two : Bool) (n : ℕ) (k : Bool) (w : Word) → Is n k w → let z = joined off_part w in Is (levels_number two (off_number n)) k (cond two z (joined one_part z))

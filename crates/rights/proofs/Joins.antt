@@ -1,21 +1,19 @@
 -- A field's two words before a word are the word of the field before what follows it; and the words of a table. Assumes nothing.
 use mathlib.Core.Path.{◌≡◌, refl, ap, ap₂, ◌∙◌}
 use mathlib.Core.Bool.{Bool, true, false, cond, not, ◌&&◌, ◌||◌, or-false}
-use mathlib.Core.List.{List, [], ◌∷◌, ◌++◌}
-use Prim.Native.Nat.{ℕ, zero, suc, ◌+◌, ◌*◌, ◌<◌}
-use native.Mathlib.Nat.{le_of_suc-le-suc, not-suc-le-zero, add_assoc}
-use native.Mathlib.Omega.{arith}
+use mathlib.Core.List.{List, [], ◌∷◌}
+use Prim.Native.Nat.{ℕ, zero, suc, ◌<◌}
+use native.Mathlib.Nat.{le_of_suc-le-suc, not-suc-le-zero}
 use lib.Bits.{bit_and, bit_or}
-use lib.ListN.{length, get_or, get_or-append}
-use lib.Seq.{get_or-append-add}
 use Rattle.records.proofs.BitLaws.{ands, ors, and-bits, or-bits}
 use Rattle.records.proofs.Cases.{each, nth}
 use Rattle.records.specs.Bits.{bit}
 use Rattle.records.specs.Access.{accesses}
 use Rattle.records.specs.Mirror.BitLists.{bits}
 use Rattle.records.specs.declared.access.Access.{Access}
-use Rattle.rights.specs.Mirror.Parts.{join_at}
-use Rattle.rights.specs.Mirror.Words.{Word, Part, joined, over, lanes, six_bits, byte, alike, opens, is_good, keeps_good, word_bits, keep_bits, take_bits, number_of, keep_of, take_of, pairs}
+use Rattle.rights.specs.Mirror.Parts.{after, pair_at, join_at}
+use Rattle.rights.specs.Mirror.Words.{Word, Part, joined, over, lanes, six_bits, byte, alike, opens, is_good, keeps_good, word_bits, keep_bits, take_bits, number_of, keep_of, take_of, pair_of, pairs}
+use Rattle.rights.specs.declared.words.pair.Pair.{Pair}
 
 -- the byte of one access
 lane : (k : Bool) (n c : ℕ) (x m w : List Bool) → ors (byte (cond k 0 c) x) (ands (alike k m) (byte n w)) ≡ byte (cond k n c) (ors x (ands m w))
@@ -61,29 +59,15 @@ unfolding take_of keep_of number_of
 join-law p w = ap (bit_or (take_of p)) (and-bits (keep_bits p) (word_bits w)) ∙ or-bits (take_bits p) (ands (keep_bits p) (word_bits w)) ∙ ap bits (join-bits p w)
 
 -- entry k of a table
-entry : (n : ℕ) (f : ℕ → Part) (k : ℕ) → k < n → (get_or (pairs n f) (k * 2) 0 ≡ keep_of (f k)) × (get_or (pairs n f) (k * 2 + 1) 0 ≡ take_of (f k))
+pub entry : (n : ℕ) (f : ℕ → Part) (k : ℕ) → k < n → pair_at (pairs n f) k ≡ pair_of (f k)
 entry zero f k h = absurd (not-suc-le-zero h)
-entry (suc n) f zero h = (refl, refl)
-entry (suc n) f (suc k) h =
-    let e = entry n (λ (j : ℕ). f (suc j)) k (le_of_suc-le-suc h) in
-    let at : ℕ → ℕ = λ (j : ℕ). get_or (pairs (suc n) f) j 0 in
-    (ap at {x = suc k * 2} {y = suc (suc (k * 2))} (omega arith) ∙ e.0, ap at {x = suc k * 2 + 1} {y = suc (suc (k * 2 + 1))} (omega arith) ∙ e.1)
+entry (suc n) f zero h = refl
+entry (suc n) f (suc k) h = entry n (λ (j : ℕ). f (suc j)) k (le_of_suc-le-suc h)
 
-size : (n : ℕ) (f : ℕ → Part) → length (pairs n f) ≡ n * 2
-size zero f = refl
-size (suc n) f = let e = size n (λ (j : ℕ). f (suc j)) in omega arith
+-- before a word
+pub pair-law : (p : Part) (w : Word) → after (pair_of p) (number_of w) ≡ number_of (joined p w)
+unfolding after
+pair-law p w = join-law p w
 
--- the words at entry k of a table that stands after the words x and before the words y
-module _ (x y : List ℕ) (n : ℕ) (f : ℕ → Part) (k : ℕ) (h : k < n) where
-  pub keep_at : get_or (x ++ (pairs n f ++ y)) (length x + k * 2) 0 ≡ keep_of (f k)
-  keep_at = let s = size n f in
-      get_or-append-add x (pairs n f ++ y) (k * 2) 0 ∙ get_or-append (pairs n f) y 0 (k * 2) (omega arith) ∙ (entry n f k h).0
-
-  pub take_at : get_or (x ++ (pairs n f ++ y)) (length x + k * 2 + 1) 0 ≡ take_of (f k)
-  take_at = let s = size n f in
-      ap (λ (j : ℕ). get_or (x ++ (pairs n f ++ y)) j 0) (add_assoc (length x) (k * 2) 1) ∙ get_or-append-add x (pairs n f ++ y) (k * 2 + 1) 0
-      ∙ get_or-append (pairs n f) y 0 (k * 2 + 1) (omega arith) ∙ (entry n f k h).1
-
-  pub join-at : (w : Word) → join_at (x ++ (pairs n f ++ y)) (length x + k * 2) (number_of w) ≡ number_of (joined (f k) w)
-  unfolding join_at
-  join-at w = ap₂ (λ (a b : ℕ). bit_or a (bit_and b (number_of w))) take_at keep_at ∙ join-law (f k) w
+pub join-at : (n : ℕ) (f : ℕ → Part) (k : ℕ) → k < n → (w : Word) → join_at (pairs n f) k (number_of w) ≡ number_of (joined (f k) w)
+join-at n f k h w = ap (λ (p : Pair). after p (number_of w)) (entry n f k h) ∙ pair-law (f k) w

@@ -1,7 +1,7 @@
 -- The number that the code makes of a leaf is that of the leaf's word. Assumes nothing.
 use mathlib.Core.Path.{◌≡◌, refl, sym, ap, ap₂, ◌∙◌}
 use mathlib.Core.Bool.{Bool, true, false, cond, not, ◌&&◌, ◌||◌, and-true, and-false}
-use mathlib.Core.List.{List, [], ◌∷◌, ◌++◌}
+use mathlib.Core.List.{List, [], ◌∷◌}
 use Prim.Native.Nat.{ℕ, ◌+◌, ◌*◌, ◌/◌, ◌%◌, ◌^◌, ◌<◌}
 use native.Mathlib.Nat.{zero-add}
 use native.Mathlib.Omega.{arith}
@@ -23,12 +23,14 @@ use Rattle.records.specs.declared.leaf.Leaf.{Leaf}
 use Rattle.records.specs.declared.setup.Control.{Control}
 use Rattle.records.specs.declared.setup.Setup.{Setup}
 use Rattle.rights.specs.Mirror.Parts.{state_part, stage2_part, limits_part, last_part, slot_part, state_at, stage2_at, last_at, descriptor_at, limits_at, code_part_at, one_mask, unknown_mask}
-use Rattle.rights.specs.Mirror.Parts.{stage_words, slot_words, base_words, join_at, whole_number, stage2_number, slot_if, slots_number, limits_if, last_index, direct_number}
+use Rattle.rights.specs.Mirror.Parts.{state1_words, state2_words, permissions2_words, last_words, slot_words, code_words, descriptor_words, limits_words, after, pair_at, join_at}
+use Rattle.rights.specs.Mirror.Parts.{whole_number, stage2_number, slot_if, slots_number, limits_if, last_index, direct_number}
 use Rattle.rights.specs.Mirror.Parts.{code_if, indirect_number, stage1_number, off_number, one_number, levels_number, unknown_number, known_number, leaf_number}
 use Rattle.rights.specs.Mirror.Parts.{stage2_word, slots_word, direct_word, descriptor_of, limits_part_of, indirect_word, base_word, off_part, one_part, known_part, stages_word, leaf_word}
-use Rattle.rights.specs.Mirror.Words.{Word, Part, whole, joined, keep_bits, number_of, keep_of, take_of, pairs}
+use Rattle.rights.specs.Mirror.Words.{Word, Part, whole, joined, keep_bits, number_of, keep_of, take_of, pair_of}
 use Rattle.rights.specs.Stage1.{dirty}
-use Rattle.rights.proofs.Joins.{join-law, keep_at, join-at}
+use Rattle.rights.specs.declared.words.pair.Pair.{Pair}
+use Rattle.rights.proofs.Joins.{join-law, pair-law, entry, join-at}
 
 number-cond : (b : Bool) (x y : Word) → cond b (number_of x) (number_of y) ≡ number_of (cond b x y)
 number-cond true x y = refl
@@ -48,18 +50,13 @@ state-low k d = low (d / 2 ^ 0) (d / 2 ^ 10) (d / 2 ^ k)
     low : (x y z : ℕ) → x % 2 ^ 1 + y % 2 ^ 1 * 2 + z % 2 ^ 1 * 4 < 8
     low x y z = omega arith
 
-at-state1 : (k d : ℕ) (w : Word) → join_at stage_words (state_of k d * 2) (number_of w) ≡ number_of (joined (state_part 11 12 false (bit d 0) (bit d 10) (bit d k)) w)
-unfolding stage_words
-at-state1 k d w =
-    ap (λ (i : ℕ). join_at stage_words i (number_of w)) (sym (zero-add (state_of k d * 2)))
-    ∙ join-at [] (pairs 8 (state_at 13 14 true) ++ (pairs 16 stage2_at ++ pairs 16 last_at)) 8 (state_at 11 12 false) (state_of k d) (state-low k d) w
-    ∙ ap (λ (p : Part). number_of (joined p w)) (state-is 11 12 k d false)
+at-state1 : (k d : ℕ) (w : Word) → join_at state1_words (state_of k d) (number_of w) ≡ number_of (joined (state_part 11 12 false (bit d 0) (bit d 10) (bit d k)) w)
+unfolding state1_words
+at-state1 k d w = join-at 8 (state_at 11 12 false) (state_of k d) (state-low k d) w ∙ ap (λ (p : Part). number_of (joined p w)) (state-is 11 12 k d false)
 
-at-state2 : (d : ℕ) (w : Word) → join_at stage_words (16 + state_of 51 d * 2) (number_of w) ≡ number_of (joined (state_part 13 14 true (bit d 0) (bit d 10) (bit d 51)) w)
-unfolding stage_words
-at-state2 d w =
-    join-at (pairs 8 (state_at 11 12 false)) (pairs 16 stage2_at ++ pairs 16 last_at) 8 (state_at 13 14 true) (state_of 51 d) (state-low 51 d) w
-    ∙ ap (λ (p : Part). number_of (joined p w)) (state-is 13 14 51 d true)
+at-state2 : (d : ℕ) (w : Word) → join_at state2_words (state_of 51 d) (number_of w) ≡ number_of (joined (state_part 13 14 true (bit d 0) (bit d 10) (bit d 51)) w)
+unfolding state2_words
+at-state2 d w = join-at 8 (state_at 13 14 true) (state_of 51 d) (state-low 51 d) w ∙ ap (λ (p : Part). number_of (joined p w)) (state-is 13 14 51 d true)
 
 -- stage 2
 permissions-low : (d : ℕ) → permissions_of d < 16
@@ -69,19 +66,16 @@ permissions-low d = low (d / 2 ^ 6) (d / 2 ^ 53)
     low x y = omega arith
 
 at-stage2 : (e : ℕ) (w : Word)
-    → join_at stage_words (32 + permissions_of e * 2) (number_of w) ≡ number_of (joined (stage2_part (stage2_of e).read (stage2_of e).write (stage2_of e).xn) w)
-unfolding stage_words stage2_of
-at-stage2 e w =
-    let b = permission-bits e in
-    join-at (pairs 8 (state_at 11 12 false) ++ pairs 8 (state_at 13 14 true)) (pairs 16 last_at) 16 stage2_at (permissions_of e) (permissions-low e) w
-    ∙ rw (b.0, b.1, b.4)
+    → join_at permissions2_words (permissions_of e) (number_of w) ≡ number_of (joined (stage2_part (stage2_of e).read (stage2_of e).write (stage2_of e).xn) w)
+unfolding permissions2_words stage2_of
+at-stage2 e w = let b = permission-bits e in join-at 16 stage2_at (permissions_of e) (permissions-low e) w ∙ rw (b.0, b.1, b.4)
 
-stage2-number : (on : Bool) (e : ℕ) → stage2_number stage_words on e ≡ number_of (stage2_word on (stage2_of e))
+stage2-number : (on : Bool) (e : ℕ) → stage2_number on e ≡ number_of (stage2_word on (stage2_of e))
 unfolding stage2_of
 stage2-number false e = whole-number
 stage2-number true e =
-    ap (λ (n : ℕ). join_at stage_words (16 + state_of 51 e * 2) (join_at stage_words (32 + permissions_of e * 2) n)) whole-number
-    ∙ ap (join_at stage_words (16 + state_of 51 e * 2)) (at-stage2 e whole)
+    ap (λ (n : ℕ). join_at state2_words (state_of 51 e) (join_at permissions2_words (permissions_of e) n)) whole-number
+    ∙ ap (join_at state2_words (state_of 51 e)) (at-stage2 e whole)
     ∙ at-state2 e (joined (stage2_part (stage2_of e).read (stage2_of e).write (stage2_of e).xn) whole)
 
 -- overlay slots
@@ -90,14 +84,12 @@ slot-low true v = omega arith
 slot-low false v = omega arith
 
 at_slots : (p u : ℕ) (w : Word) → p < 16 → u < 16
-    → join_at slot_words (p * 2) (join_at slot_words (32 + u * 2) (number_of w)) ≡ number_of (joined (slot_part Privileged p) (joined (slot_part Unprivileged u) w))
+    → join_at (slot_words Privileged) p (join_at (slot_words Unprivileged) u (number_of w)) ≡ number_of (joined (slot_part Privileged p) (joined (slot_part Unprivileged u) w))
 unfolding slot_words
 at_slots p u w h g =
-    ap (join_at slot_words (p * 2)) (join-at (pairs 16 (slot_part Privileged)) [] 16 (slot_part Unprivileged) u g w)
-    ∙ ap (λ (i : ℕ). join_at slot_words i (number_of (joined (slot_part Unprivileged u) w))) (sym (zero-add (p * 2)))
-    ∙ join-at [] (pairs 16 (slot_part Unprivileged)) 16 (slot_part Privileged) p h (joined (slot_part Unprivileged u) w)
+    ap (join_at (slot_words Privileged) p) (join-at 16 (slot_part Unprivileged) u g w) ∙ join-at 16 (slot_part Privileged) p h (joined (slot_part Unprivileged u) w)
 
-slots-number : (s : Setup) (d : ℕ) (p u : Bool) (w : Word) → slots_number slot_words s d p u (number_of w) ≡ number_of (slots_word s (stage1_of d) p u w)
+slots-number : (s : Setup) (d : ℕ) (p u : Bool) (w : Word) → slots_number s d p u (number_of w) ≡ number_of (slots_word s (stage1_of d) p u w)
 unfolding stage1_of
 slots-number s d p u w =
     ap (λ (n : ℕ). cond (s.control.overlay.privileged || s.control.overlay.unprivileged) n (number_of w))
@@ -141,28 +133,19 @@ module _ (c : Control) (d t : ℕ) where
       (λ (m : List Bool). last_part (get_or m 0 false) (get_or m 1 false) (get_or m 2 false) (get_or m 3 false)) refl
 
   module _ (w : Word) where
-    abbrev table : List ℕ
-    table = pairs 16 (descriptor_at c.two) ++ pairs 16 (limits_at c.two)
+    abbrev i : ℕ
+    i = permissions_of d
 
-    at_first : (x : Word) → join_at table (permissions_of d * 2) (number_of x) ≡ number_of (joined first x)
-    at_first x =
-        ap (λ (i : ℕ). join_at table i (number_of x)) (sym (zero-add (permissions_of d * 2)))
-        ∙ join-at [] (pairs 16 (limits_at c.two)) 16 (descriptor_at c.two) (permissions_of d) (permissions-low d) x
-        ∙ ap (λ (p : Part). number_of (joined p x)) first-is
+    abbrev j : ℕ
+    j = limits_if c.unlimited t
 
-    at_second : (x : Word) → join_at table (32 + limits_if c.unlimited t * 2) (number_of x) ≡ number_of (joined second x)
-    at_second x =
-        join-at (pairs 16 (descriptor_at c.two)) [] 16 (limits_at c.two) (limits_if c.unlimited t) (limits-low c.unlimited t) x
-        ∙ ap (λ (p : Part). number_of (joined p x)) second_is
+    first_pair : pair_at (descriptor_words c.two) i ≡ pair_of first
+    unfolding descriptor_words
+    first_pair = entry 16 (descriptor_at c.two) i (permissions-low d) ∙ ap pair_of first-is
 
-    keeps-first : get_or table (permissions_of d * 2) 0 ≡ keep_of first
-    keeps-first =
-        ap (λ (i : ℕ). get_or table i 0) (sym (zero-add (permissions_of d * 2)))
-        ∙ keep_at [] (pairs 16 (limits_at c.two)) 16 (descriptor_at c.two) (permissions_of d) (permissions-low d) ∙ ap keep_of first-is
-
-    keeps-second : get_or table (32 + limits_if c.unlimited t * 2) 0 ≡ keep_of second
-    keeps-second =
-        keep_at (pairs 16 (descriptor_at c.two)) [] 16 (limits_at c.two) (limits_if c.unlimited t) (limits-low c.unlimited t) ∙ ap keep_of second_is
+    second_pair : pair_at (limits_words c.two) j ≡ pair_of second
+    unfolding limits_words
+    second_pair = entry 16 (limits_at c.two) j (limits-low c.unlimited t) ∙ ap pair_of second_is
 
     abbrev pw : Bool
     pw = first.keeps (access_of Privileged Write) && second.keeps (access_of Privileged Write)
@@ -171,43 +154,42 @@ module _ (c : Control) (d t : ℕ) where
     ur = first.keeps (access_of Unprivileged Read) && second.keeps (access_of Unprivileged Read)
 
     abbrev index : ℕ
-    index = last_index c.wxn c.pan (bit_and (get_or table (permissions_of d * 2) 0) (get_or table (32 + limits_if c.unlimited t * 2) 0))
+    index = last_index c.wxn c.pan (bit_and (pair_at (descriptor_words c.two) i).keeps (pair_at (limits_words c.two) j).keeps)
 
     index_is : index ≡ digit pw + digit ur * 4 + (digit c.wxn * 2 + digit c.pan * 8)
-    index_is = rw (keeps-first, keeps-second, right-bit first second 49 pw refl, right-bit first second 51 ur refl)
+    index_is = rw (first_pair, second_pair, right-bit first second 49 pw refl, right-bit first second 51 ur refl)
 
     index-low : (a b x y : Bool) → digit a + digit b * 4 + (digit x * 2 + digit y * 8) < 16
     index-low a b x y =
         ltb-true _ _ (each (a ∷ b ∷ x ∷ y ∷ []) (λ (m : List Bool). ltb (digit (get_or m 0 false) + digit (get_or m 1 false) * 4 + (digit (get_or m 2 false) * 2 + digit (get_or m 3 false) * 8)) 16)
         (λ (m : List Bool). true) refl)
 
-    at_last : join_at stage_words (64 + index * 2) (number_of w) ≡ number_of (joined (last_part pw c.wxn ur c.pan) w)
-    unfolding stage_words
+    at_last : join_at last_words index (number_of w) ≡ number_of (joined (last_part pw c.wxn ur c.pan) w)
+    unfolding last_words
     at_last =
         rw index_is
-        (join-at (pairs 8 (state_at 11 12 false) ++ (pairs 8 (state_at 13 14 true) ++ pairs 16 stage2_at)) [] 16 last_at (digit pw + digit ur * 4 + (digit c.wxn * 2 + digit c.pan * 8))
-        (index-low pw ur c.wxn c.pan) w
+        (join-at 16 last_at (digit pw + digit ur * 4 + (digit c.wxn * 2 + digit c.pan * 8)) (index-low pw ur c.wxn c.pan) w
         ∙ ap (λ (p : Part). number_of (joined p w)) (last-is pw c.wxn ur c.pan))
 
-    pub direct-number : direct_number (base_words false c.two) stage_words c d t (number_of w) ≡ number_of (direct_word c.wxn c.pan first second w)
-    unfolding direct_number base_words
+    pub direct-number : direct_number c d t (number_of w) ≡ number_of (direct_word c.wxn c.pan first second w)
+    unfolding direct_number
     direct-number =
-        ap (λ (n : ℕ). join_at table (permissions_of d * 2) (join_at table (32 + limits_if c.unlimited t * 2) n)) at_last
-        ∙ ap (join_at table (permissions_of d * 2)) (at_second (joined (last_part pw c.wxn ur c.pan) w))
-        ∙ at_first (joined second (joined (last_part pw c.wxn ur c.pan) w))
+        let last = joined (last_part pw c.wxn ur c.pan) w in
+        ap (λ (n : ℕ). join_at (descriptor_words c.two) i (join_at (limits_words c.two) j n)) at_last
+        ∙ ap (λ (p : Pair). join_at (descriptor_words c.two) i (after p (number_of last))) second_pair
+        ∙ ap (λ (p : Pair). after p (after (pair_of second) (number_of last))) first_pair
+        ∙ ap (after (pair_of first)) (pair-law second last) ∙ pair-law first (joined second last)
 
 -- Indirect
 pub code-low : (two : Bool) (u : ℕ) → code_if two u < 16
 code-low true u = omega arith
 code-low false u = omega arith
 
-at-codes : (two : Bool) (p u : ℕ) (w : Word) → p < 16 → u < 16
-    → join_at (base_words true two) (p * 2) (join_at (base_words true two) (32 + u * 2) (number_of w)) ≡ number_of (joined (code_part_at Privileged p) (joined (code_part_at Unprivileged u) w))
-unfolding base_words
-at-codes two p u w h g =
-    ap (join_at (base_words true two) (p * 2)) (join-at (pairs 16 (code_part_at Privileged)) [] 16 (code_part_at Unprivileged) u g w)
-    ∙ ap (λ (i : ℕ). join_at (base_words true two) i (number_of (joined (code_part_at Unprivileged u) w))) (sym (zero-add (p * 2)))
-    ∙ join-at [] (pairs 16 (code_part_at Unprivileged)) 16 (code_part_at Privileged) p h (joined (code_part_at Unprivileged u) w)
+at-codes : (p u : ℕ) (w : Word) → p < 16 → u < 16
+    → join_at (code_words Privileged) p (join_at (code_words Unprivileged) u (number_of w)) ≡ number_of (joined (code_part_at Privileged p) (joined (code_part_at Unprivileged u) w))
+unfolding code_words
+at-codes p u w h g =
+    ap (join_at (code_words Privileged) p) (join-at 16 (code_part_at Unprivileged) u g w) ∙ join-at 16 (code_part_at Privileged) p h (joined (code_part_at Unprivileged u) w)
 
 module _ (s : Setup) (f : Leaf) (w : Word) where
   abbrev d : ℕ
@@ -219,27 +201,27 @@ module _ (s : Setup) (f : Leaf) (w : Word) where
   abbrev u : ℕ
   u = code_at s.pir.unprivileged (pi_index d)
 
-  indirect-number : indirect_number (base_words true s.control.two) slot_words s d (number_of w) ≡ number_of (indirect_word s (stage1_of d) p u w)
+  indirect-number : indirect_number s d (number_of w) ≡ number_of (indirect_word s (stage1_of d) p u w)
   unfolding indirect_number
   indirect-number =
-      ap (λ (n : ℕ). join_at (base_words true s.control.two) (p * 2) (join_at (base_words true s.control.two) (32 + code_if s.control.two u * 2) n)) (slots-number s d (ltb p 8) (ltb u 8) w)
-      ∙ at-codes s.control.two p (code_if s.control.two u) (slots_word s (stage1_of d) (ltb p 8) (ltb u 8) w) (omega arith) (code-low s.control.two (code_at s.pir.unprivileged (pi_index d)))
+      ap (λ (n : ℕ). join_at (code_words Privileged) p (join_at (code_words Unprivileged) (code_if s.control.two u) n)) (slots-number s d (ltb p 8) (ltb u 8) w)
+      ∙ at-codes p (code_if s.control.two u) (slots_word s (stage1_of d) (ltb p 8) (ltb u 8) w) (omega arith) (code-low s.control.two (code_at s.pir.unprivileged (pi_index d)))
 
-  stage1-number : stage1_number (base_words s.control.indirect s.control.two) slot_words stage_words s f (number_of w)
+  stage1-number : stage1_number s f (number_of w)
       ≡ number_of (joined (state_part 11 12 false (stage1_of d).valid (stage1_of d).af (dirty s.control (stage1_of d))) (base_word s (stage1_of d) (limits_of f.limits) w))
   unfolding stage1_number stage1_of
   stage1-number = go s.control.indirect
     where
       go : (i : Bool)
-          → cond i (join_at stage_words (state_of 7 d * 2) (indirect_number (base_words i s.control.two) slot_words s d (number_of w)))
-          (join_at stage_words (state_of 51 d * 2) (direct_number (base_words i s.control.two) stage_words s.control d f.limits (slots_number slot_words s d true true (number_of w))))
+          → cond i (join_at state1_words (state_of 7 d) (indirect_number s d (number_of w)))
+          (join_at state1_words (state_of 51 d) (direct_number s.control d f.limits (slots_number s d true true (number_of w))))
           ≡ number_of (joined (state_part 11 12 false (bit d 0) (bit d 10) (cond i (bit d 7) (bit d 51)))
           (cond i (indirect_word s (stage1_of d) p u w)
           (direct_word s.control.wxn s.control.pan (descriptor_of s.control (stage1_of d)) (limits_part_of s.control (limits_of f.limits)) (slots_word s (stage1_of d) true true w))))
-      go true = ap (join_at stage_words (state_of 7 d * 2)) indirect-number ∙ at-state1 7 d (indirect_word s (stage1_of d) p u w)
+      go true = ap (join_at state1_words (state_of 7 d)) indirect-number ∙ at-state1 7 d (indirect_word s (stage1_of d) p u w)
       go false =
-          ap (λ (n : ℕ). join_at stage_words (state_of 51 d * 2) (direct_number (base_words false s.control.two) stage_words s.control d f.limits n)) (slots-number s d true true w)
-          ∙ ap (join_at stage_words (state_of 51 d * 2)) (direct-number s.control d f.limits (slots_word s (stage1_of d) true true w))
+          ap (λ (n : ℕ). join_at state1_words (state_of 51 d) (direct_number s.control d f.limits n)) (slots-number s d true true w)
+          ∙ ap (join_at state1_words (state_of 51 d)) (direct-number s.control d f.limits (slots_word s (stage1_of d) true true w))
           ∙ at-state1 51 d _
 
 -- stage 1 off, and one level
@@ -288,11 +270,11 @@ known-number true w = refl
 known-number false w = ap (λ (n : ℕ). bit_and n (number_of w)) unknown-keeps ∙ mask-law (known_part false) w (known-takes false)
 
 -- THE NUMBER OF A LEAF
-pub number-law : (s : Setup) (f : Leaf) → leaf_number (base_words s.control.indirect s.control.two) slot_words stage_words s f ≡ number_of (leaf_word s f)
+pub number-law : (s : Setup) (f : Leaf) → leaf_number s f ≡ number_of (leaf_word s f)
 unfolding leaf_number leaf_word
 number-law s f =
     ap (levels_number s.control.two)
-    (ap (λ (n : ℕ). cond s.control.stage1 (stage1_number (base_words s.control.indirect s.control.two) slot_words stage_words s f n) (off_number n)) (stage2-number s.control.stage2 f.stage2)
+    (ap (λ (n : ℕ). cond s.control.stage1 (stage1_number s f n) (off_number n)) (stage2-number s.control.stage2 f.stage2)
     ∙ ap₂ (cond s.control.stage1) (stage1-number s f second) (off-number second) ∙ number-cond s.control.stage1 _ _)
     ∙ levels-number s.control.two (stages_word s (stage1_of f.stage1) (stage2_of f.stage2) (limits_of f.limits))
   where

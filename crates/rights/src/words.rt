@@ -4,11 +4,17 @@
 // public function has a `requires`.
 ghost use Rattle.std.specs.Prelude.{◌≡◌, ◌<◌};
 ghost use Rattle.records.specs.Access.{digit};
-ghost use Rattle.rights.specs.Mirror.Parts.{join_at, slot_if, limits_if, last_index, code_if, stage2_number, overlaid_number, slots_number, direct_number, indirect_number, stage1_number, off_number, one_number, levels_number, unknown_number, known_number, leaf_number};
+ghost use Rattle.rights.specs.Mirror.Parts.{slot_if, limits_if, last_index, code_if, stage2_number, overlaid_number, slots_number, direct_number, indirect_number, stage1_number, off_number, one_number, levels_number, unknown_number, known_number, leaf_number};
 
 pub mod groups;
-pub mod tables;
+pub mod pair;
+mod tables;
 
+use crate::words::tables::{
+    descriptor_words, last_words, limits_words, permissions2_words, privileged_code_words,
+    privileged_slot_words, state1_words, state2_words, unprivileged_code_words,
+    unprivileged_slot_words,
+};
 use records::descriptor::fields::{indirect_state, permissions, state};
 use records::descriptor::index::{PIIndex, POIndex};
 use records::leaf::Leaf;
@@ -24,31 +30,13 @@ pub(crate) const MASK_ONE_LEVEL: u64 = 0x47C7_0000_00FF_FFFF;
 
 pub(crate) const MASK_UNKNOWN: u64 = 0x40FF_FFFF_FFFF_FFFF;
 
-// The two words of a field at index `i`, before the word of what follows.
-#[tactic(auto, unfolding(crate::specs::Mirror::Parts::join_at))]
-fn join(t: &[u64; 64], i: usize, w: u64) -> u64
-    requires { i < 63 }
-    ensures { result ≡ join_at t.now i w }
-{
-    t[i + 1] | (t[i] & w)
-}
-
-// The same of the stages' table.
-#[tactic(auto, unfolding(crate::specs::Mirror::Parts::join_at))]
-pub(crate) fn join_stage(t: &[u64; 96], i: usize, w: u64) -> u64
-    requires { i < 95 }
-    ensures { result ≡ join_at t.now i w }
-{
-    t[i + 1] | (t[i] & w)
-}
-
 // Stage 2: S2AP and XN, after valid, AF and dirty state.
-fn stage2_word(t: &[u64; 96], on: bool, e: u64) -> u64
-    ensures { result ≡ stage2_number t.now on e }
+fn stage2_word(on: bool, e: u64) -> u64
+    ensures { result ≡ stage2_number on e }
 {
     if on {
-        let left = join_stage(t, 32 + permissions(e) * 2, WHOLE);
-        return join_stage(t, 16 + state(e) * 2, left);
+        let left = permissions2_words()[permissions(e)].join(WHOLE);
+        return state2_words()[state(e)].join(left);
     }
     WHOLE
 }
@@ -64,23 +52,24 @@ pub(crate) fn slot_if(on: bool, v: u8) -> usize
 }
 
 // The slots of both levels.
-fn overlaid_word(slots: &[u64; 64], p: usize, u: usize, w: u64) -> u64
+fn overlaid_word(p: usize, u: usize, w: u64) -> u64
     requires { (p < 16) × (u < 16) }
-    ensures { result ≡ overlaid_number slots.now p u w }
+    ensures { result ≡ overlaid_number p u w }
 {
-    join(slots, p * 2, join(slots, 32 + u * 2, w))
+    let left = unprivileged_slot_words()[u].join(w);
+    privileged_slot_words()[p].join(left)
 }
 
 // The overlay, where `p` and `u` are whether it applies to the base rights of either level.
-fn slots_word(slots: &[u64; 64], s: Setup, d: u64, p: bool, u: bool, w: u64) -> u64
-    ensures { result ≡ slots_number slots.now s d p u w }
+fn slots_word(s: Setup, d: u64, p: bool, u: bool, w: u64) -> u64
+    ensures { result ≡ slots_number s d p u w }
 {
     let on = s.control.overlay;
     if on.privileged | on.unprivileged {
         let i = POIndex::of(d);
         let privileged = slot_if(on.privileged & p, i.slot(s.por.privileged));
         let unprivileged = slot_if(on.unprivileged & u, i.slot(s.por.unprivileged));
-        return overlaid_word(slots, privileged, unprivileged, w);
+        return overlaid_word(privileged, unprivileged, w);
     }
     w
 }
@@ -116,13 +105,13 @@ pub(crate) fn last_index(wxn: bool, pan: bool, m: u64) -> usize
 
 // Direct: AP, PXN and UXN, then the limits, then the steps that read rights.
 #[tactic(auto, unfolding(crate::specs::Mirror::Parts::direct_number))]
-fn direct_word(base: &[u64; 64], t: &[u64; 96], c: Control, d: u64, limits: u8, w: u64) -> u64
-    ensures { result ≡ direct_number base.now t.now c d limits w }
+fn direct_word(c: Control, d: u64, limits: u8, w: u64) -> u64
+    ensures { result ≡ direct_number c d limits w }
 {
-    let i = permissions(d) * 2;
-    let j = 32 + limits_if(c.unlimited, limits) * 2;
-    let k = 64 + last_index(c.wxn, c.pan, base[i] & base[j]) * 2;
-    join(base, i, join(base, j, join_stage(t, k, w)))
+    let first = descriptor_words(c.two)[permissions(d)];
+    let second = limits_words(c.two)[limits_if(c.unlimited, limits)];
+    let last = last_words()[last_index(c.wxn, c.pan, first.keeps & second.keeps)];
+    first.join(second.join(last.join(w)))
 }
 
 // The unprivileged code, which is not read with one level.
@@ -137,36 +126,29 @@ pub(crate) fn code_if(two: bool, u: u8) -> usize
 
 // Indirect: the base codes, then the overlay, which applies to codes 0 to 7.
 #[tactic(auto, unfolding(crate::specs::Mirror::Parts::indirect_number))]
-fn indirect_word(base: &[u64; 64], slots: &[u64; 64], s: Setup, d: u64, w: u64) -> u64
-    ensures { result ≡ indirect_number base.now slots.now s d w }
+fn indirect_word(s: Setup, d: u64, w: u64) -> u64
+    ensures { result ≡ indirect_number s d w }
 {
     let i = PIIndex::of(d);
     let p = (i.code(s.pir.privileged) % 16) as usize;
     let code = i.code(s.pir.unprivileged);
     let u = code_if(s.control.two, code);
-    let left = slots_word(slots, s, d, p < 8, code < 8, w);
-    join(base, p * 2, join(base, 32 + u * 2, left))
+    let overlaid = slots_word(s, d, p < 8, code < 8, w);
+    let left = unprivileged_code_words()[u].join(overlaid);
+    privileged_code_words()[p].join(left)
 }
 
 // Stage 1: valid, AF and dirty state, then base rights and overlay.
 #[tactic(auto, unfolding(crate::specs::Mirror::Parts::stage1_number))]
-fn stage1_word(base: &[u64; 64], slots: &[u64; 64], t: &[u64; 96], s: Setup, f: Leaf, w: u64) -> u64
-    ensures { result ≡ stage1_number base.now slots.now t.now s f w }
+fn stage1_word(s: Setup, f: Leaf, w: u64) -> u64
+    ensures { result ≡ stage1_number s f w }
 {
     let d = f.stage1;
     if s.control.indirect {
-        return join_stage(
-            t,
-            indirect_state(d) * 2,
-            indirect_word(base, slots, s, d, w),
-        );
+        return state1_words()[indirect_state(d)].join(indirect_word(s, d, w));
     }
-    let left = slots_word(slots, s, d, true, true, w);
-    join_stage(
-        t,
-        state(d) * 2,
-        direct_word(base, t, s.control, d, f.limits, left),
-    )
+    let left = direct_word(s.control, d, f.limits, slots_word(s, d, true, true, w));
+    state1_words()[state(d)].join(left)
 }
 
 // Stage 1 off: no base code is read.
@@ -194,14 +176,14 @@ pub(crate) fn levels_word(two: bool, w: u64) -> u64
     one_word(w)
 }
 
-// The word of a leaf, where `base`, `slots` and `t` are the words of base rights, of slots and of the stages.
+// The word of a leaf.
 #[tactic(auto, unfolding(crate::specs::Mirror::Parts::leaf_number))]
-pub fn leaf_word(base: &[u64; 64], slots: &[u64; 64], t: &[u64; 96], s: Setup, f: Leaf) -> u64
-    ensures { result ≡ leaf_number base.now slots.now t.now s f }
+pub fn leaf_word(s: Setup, f: Leaf) -> u64
+    ensures { result ≡ leaf_number s f }
 {
-    let w = stage2_word(t, s.control.stage2, f.stage2);
+    let w = stage2_word(s.control.stage2, f.stage2);
     if s.control.stage1 {
-        return levels_word(s.control.two, stage1_word(base, slots, t, s, f, w));
+        return levels_word(s.control.two, stage1_word(s, f, w));
     }
     levels_word(s.control.two, off_word(w))
 }

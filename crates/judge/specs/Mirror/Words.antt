@@ -1,18 +1,19 @@
 -- What the list reads from the words of its leaves, and the words by groups. Nothing here needs to be believed: `word-clear` and `word-refused` of
 -- proofs/LeafWords tie the words to `leaf_rights` and `cause_at`, `direct-gives`, `indirect-gives` and `off-gives` of proofs/GroupWords the groups to the words. Assumes nothing.
-use Rattle.std.specs.Prelude.{ℕ, zero, suc, ◌+◌, ◌*◌, ◌/◌, ◌%◌, ◌^◌, ◌<◌, ◌≡◌, Bool, true, ◌&&◌, List, [], ◌∷◌, eqb, get_or, set}
+use Rattle.std.specs.Prelude.{ℕ, zero, suc, ◌+◌, ◌*◌, ◌/◌, ◌%◌, ◌^◌, ◌<◌, ◌≡◌, Bool, true, ◌&&◌, List, eqb, get_or, set}
 use Rattle.std.specs.Int.Bits.{bit_or, bit_xor}
 use Rattle.records.specs.Descriptor.{stage1_of, stage2_of}
 use Rattle.records.specs.Leaf.{leaf_at}
-use Rattle.records.specs.Mirror.Places.{leaf_places, codes_part}
+use Rattle.records.specs.Mirror.Places.{leaf_places}
 use Rattle.records.specs.declared.descriptor.places.LeafPlaces.{LeafPlaces}
+use Rattle.records.specs.declared.descriptor.places.Places.{Places}
 use Rattle.records.specs.declared.leaf.Leaf.{Leaf}
 use Rattle.records.specs.declared.setup.Setup.{Setup}
-use Rattle.rights.specs.Mirror.Groups.{levels_mask, low_pair, flag_pair, never_pair, s2ap_word, Grouped, stage2_grouped, slots_grouped, direct_grouped, indirect_grouped, off_grouped}
-use Rattle.rights.specs.Mirror.Parts.{base_words, slot_words, stage_words, known_part, leaf_word}
+use Rattle.rights.specs.Mirror.Parts.{known_part, leaf_word}
 use Rattle.rights.specs.Mirror.Words.{Word, joined, number_of}
-use Rattle.attributes.specs.Mirror.Known.{MemoryTable, passes}
+use Rattle.attributes.specs.Mirror.Known.{passes}
 use Rattle.attributes.specs.Order.{check_of}
+use Rattle.judge.specs.declared.fill.LeafWord.{LeafWord}
 
 -- the marks of a word's number: not 0 in bits 0 to 7 or from 14 on exactly where an access is open and not good, or base codes are refused
 unfoldable pub marks_in : ℕ → ℕ
@@ -64,30 +65,13 @@ put_at v k w =
     set (set (set (set (set (set (set (set v k (cause_in w 0)) (k + 1) (cause_in w 1)) (k + 2) (cause_in w 2)) (k + 3) (cause_in w 3)) (k + 4) (cause_in w 4)) (k + 5) (cause_in w 5)) (k + 6) (cause_in w 6))
     (k + 7) (cause_in w 7)
 
--- the tables of a setup: words of base rights, slots and stages, and known memory
-abbrev pub Tables : Setup → List ℕ → List ℕ → List ℕ → List ℕ → Type 0
-Tables s b o t m =
-    (b ≡ base_words s.control.indirect s.control.two) × (o ≡ slot_words) × (t ≡ stage_words) × MemoryTable s.control s.mair s.mair2 m
+-- what is read of leaf i
+abbrev pub found_at : Setup → List ℕ → ℕ → LeafWord
+found_at s ls i = record { word = word_at s ls i; limits = (leaf_at ls i).limits; forbidden = (leaf_at ls i).forbidden }
 
--- by groups: the word of a leaf at its places, under Direct, under Indirect
-unfoldable pub direct_at : List ℕ → List ℕ → List ℕ → List ℕ → List ℕ → List ℕ → List ℕ → List ℕ → List ℕ → Bool → Bool → LeafPlaces → ℕ
-direct_at low flag never limits overlays low2 flag2 never2 s2ap second on f =
-    direct_grouped low flag never limits f.stage1 f.limits (slots_grouped overlays on f.stage1.slots 48 (stage2_grouped low2 flag2 never2 s2ap second f.stage2))
-
-unfoldable pub indirect_at : List ℕ → List ℕ → List ℕ → List ℕ → List ℕ → List ℕ → List ℕ → List ℕ → List ℕ → Bool → Bool → LeafPlaces → ℕ
-indirect_at low state codes applies overlays low2 flag2 never2 s2ap second on f =
-    indirect_grouped low state codes f.stage1
-    (slots_grouped overlays on f.stage1.slots (codes_part applies f.stage1.codes) (stage2_grouped low2 flag2 never2 s2ap second f.stage2))
-
--- with stage 1 off
-abbrev pub off_at : List ℕ → List ℕ → List ℕ → List ℕ → Bool → Bool → LeafPlaces → ℕ
-off_at low2 flag2 never2 s2ap second two f = off_grouped low2 flag2 never2 s2ap second two f.stage2
-
--- the tables of stage 2's groups, by table m of known memory
-abbrev pub Second : List ℕ → List ℕ → List ℕ → List ℕ → List ℕ → Type 0
-Second m low2 flag2 never2 s2ap =
-    Grouped 64 (low_pair stage_words m 16 (levels_mask true) 16) low2 × Grouped 8 (flag_pair stage_words m 16 36) flag2 × Grouped 16 (never_pair stage_words 16 stage_words 38) never2
-    × (s2ap ≡ s2ap_word stage_words 0 ∷ s2ap_word stage_words 1 ∷ s2ap_word stage_words 2 ∷ s2ap_word stage_words 3 ∷ [])
+-- by groups: the word of a leaf at its places, where `first` and `second` are what the stages make of their descriptors
+abbrev pub groups_at : (Places → ℕ → ℕ → ℕ) → (Places → ℕ) → LeafPlaces → ℕ
+groups_at first second f = first f.stage1 f.limits (second f.stage2)
 
 -- the numbers that g gives at the places of leaves are those of their words
 abbrev pub Gives : Setup → (LeafPlaces → ℕ) → Type 0

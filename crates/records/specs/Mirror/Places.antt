@@ -1,8 +1,7 @@
 -- Where a descriptor stands in tables that have an entry for each value of some of its bits. Nothing here needs to be believed: the laws of proofs/PlaceLaws
 -- (`low1-fields`, `low2-fields`, `flag-fields`, `state-fields`, `never-fields`, `ap-bits`, `codes_at`, `slots_at`) say of each place which bits and fields of the
 -- descriptor it has. Assumes nothing.
-use Rattle.std.specs.Prelude.{ℕ, ◌+◌, ◌*◌, ◌/◌, ◌%◌, ◌^◌, List, get_or}
-use Rattle.std.specs.Int.Bits.{bit_and, bit_or}
+use Rattle.std.specs.Prelude.{ℕ, ◌+◌, ◌*◌, ◌/◌, ◌%◌, ◌^◌}
 use Rattle.records.specs.Bits.{field}
 use Rattle.records.specs.declared.descriptor.places.CodesPlace.{CodesPlace}
 use Rattle.records.specs.declared.descriptor.places.LeafPlaces.{LeafPlaces}
@@ -40,16 +39,9 @@ codes_descriptor k = k % 16 * 2 ^ 51 + k / 16 % 2 * 2 ^ 6
 abbrev pub slots_descriptor : ℕ → ℕ
 slots_descriptor k = k % 16 * 2 ^ 59
 
--- a table of n entries has what each keeps and, n words further on, what it takes away: the words of entry k before w
-abbrev pub group_at : List ℕ → ℕ → ℕ → ℕ → ℕ
-group_at g n k w = bit_or (get_or g (k + n) 0) (bit_and (get_or g k 0) w)
+-- the entry at the place of base codes, of 32, and at that of slots, of 16 in each of four parts
+abbrev pub codes_index : CodesPlace → ℕ
+codes_index c = c.0 % 32
 
--- at the place of base codes, 32 entries, and at that of slots, 16 in each of four parts
-abbrev pub codes_join : List ℕ → CodesPlace → ℕ → ℕ
-codes_join g c w = group_at g 32 (c.0 % 32) w
-
-abbrev pub codes_part : List ℕ → CodesPlace → ℕ
-codes_part a c = get_or a (c.0 % 32) 0
-
-abbrev pub slots_join : List ℕ → SlotsPlace → ℕ → ℕ → ℕ
-slots_join g c part w = group_at g 64 (c.0 % 16 + part % 64 / 16 * 16) w
+abbrev pub slots_index : SlotsPlace → ℕ → ℕ
+slots_index c part = c.0 % 16 + part % 64 / 16 * 16

@@ -3,6 +3,13 @@ ghost use Rattle.std.specs.Prelude.{◌≡◌, ◌<◌};
 ghost use Rattle.records.specs.Mirror.Fields.{state_of, permissions_of, attr_indx_of};
 ghost use Rattle.records.specs.Descriptor.{mem_attr, sh};
 
+// For each value of the fields of one stage's descriptor that say what memory it is, whether it has some property: AttrIndx or MemAttr, and SH.
+#[derive(Clone, Copy)]
+pub struct ByMemory {
+    pub kind: [bool; 16],
+    pub sh: [bool; 4],
+}
+
 // Valid, AF and bit 51, lowest first.
 pub fn state(d: u64) -> usize
     ensures { (result ≡ state_of 51 d) × (result < 8) }

@@ -1,19 +1,18 @@
 // Where the descriptors of a leaf stand in tables that have an entry for each value of some of their bits. The bits are read from single bytes, which the
 // compiler turns into loads of a byte, but for `state`, whose bits lie in two. Bits 1 and 52, which are read with their neighbours, are no field. No public
 // function but `leaf_places` has a `requires`.
-ghost use Rattle.std.specs.Prelude.{◌≡◌, ◌+◌, ◌*◌, ◌≤◌, length};
+ghost use Rattle.std.specs.Prelude.{◌≡◌, ◌+◌, ◌*◌, ◌≤◌, length, get_or};
 ghost use Rattle.records.specs.Bytes.{le64};
 ghost use Rattle.records.specs.Leaf.{leaf_at};
-ghost use Rattle.records.specs.Mirror.Places.{places_of, leaf_places, codes_descriptor, slots_descriptor, codes_join, codes_part, slots_join};
+ghost use Rattle.records.specs.Mirror.Places.{places_of, leaf_places, codes_descriptor, slots_descriptor, codes_index, slots_index};
 
 use crate::number::short;
 
-// Bits 54 to 51, and bit 6 above them: the PIIndex is among them. Like an index, a place is made by decoding alone and gives no number away. Its methods take
-// tables of 32 entries.
+// Bits 54 to 51, and bit 6 above them: the PIIndex is among them. Like an index, a place is made by decoding alone and gives no number away.
 #[derive(Clone, Copy)]
 pub struct CodesPlace(usize);
 
-// Bits 62 to 59: the POIndex, and AttrIndx[3] below it. Its method takes a table of four parts with 16 entries each.
+// Bits 62 to 59: the POIndex, and AttrIndx[3] below it.
 #[derive(Clone, Copy)]
 pub struct SlotsPlace(usize);
 
@@ -86,32 +85,21 @@ pub fn slots_descriptor(k: usize) -> u64
 }
 
 impl CodesPlace {
-    // What this entry of 32 keeps of `w`, with what it takes away, which stands 32 words further on.
-    pub fn join(self, table: &[u64; 64], w: u64) -> u64
-        ensures { result ≡ codes_join table.now self w }
+    // The entry at this place.
+    pub fn pick<T: Copy>(self, table: &[T; 32]) -> T
+        ensures { (d : T) → result ≡ get_or table.now (codes_index self) d }
     {
         let i = self.0;
-        let k = i % 32;
-        table[k + 32] | (table[k] & w)
-    }
-
-    // This entry of 32 parts.
-    pub fn part(self, table: &[u8; 32]) -> u8
-        ensures { result ≡ codes_part table.now self }
-    {
-        let i = self.0;
-        let k = i % 32;
-        table[k]
+        table[i % 32]
     }
 }
 
 impl SlotsPlace {
-    // What this entry of 16 in a part of four keeps of `w`, with what it takes away, which stands 64 words further on. The parts are 0, 16, 32 and 48.
-    pub fn join(self, table: &[u64; 128], part: u8, w: u64) -> u64
-        ensures { result ≡ slots_join table.now self part w }
+    // The entry at this place in a part of four with 16 entries each. The parts are 0, 16, 32 and 48.
+    pub fn pick<T: Copy>(self, table: &[T; 64], part: u8) -> T
+        ensures { (d : T) → result ≡ get_or table.now (slots_index self part) d }
     {
         let i = self.0;
-        let k = i % 16 + (part % 64 / 16 * 16) as usize;
-        table[k + 64] | (table[k] & w)
+        table[i % 16 + (part % 64 / 16 * 16) as usize]
     }
 }

@@ -1,6 +1,6 @@
 -- The fields of a leaf as parts of its word, each by the definitions of this layer, and the tables of their words. Nothing here needs to be believed:
 -- `word-law` of proofs/WordLaws ties it to the answers of single accesses. Assumes nothing.
-use Rattle.std.specs.Prelude.{ℕ, ◌+◌, ◌*◌, ◌/◌, ◌%◌, ◌^◌, Bool, true, false, cond, not, ◌&&◌, ◌||◌, List, [], ◌∷◌, ◌++◌, leb, ltb, get_or}
+use Rattle.std.specs.Prelude.{ℕ, ◌+◌, ◌*◌, ◌/◌, ◌%◌, ◌^◌, Bool, true, false, cond, not, ◌&&◌, ◌||◌, List, [], ◌∷◌, leb, ltb, get_or}
 use Rattle.std.specs.Int.Bits.{bit_and, bit_or}
 use Rattle.records.specs.Access.{access_of, six, has, has_right, digit}
 use Rattle.records.specs.Bits.{bit}
@@ -26,6 +26,7 @@ use Rattle.rights.specs.Stage1.{dirty}
 use Rattle.rights.specs.Stage2.{xn_px, xn_ux}
 use Rattle.rights.specs.Steps.{meet}
 use Rattle.rights.specs.declared.indirect.Code.{Code}
+use Rattle.rights.specs.declared.words.pair.Pair.{Pair}
 
 abbrev pub same_level : Level → Level → Bool
 same_level Privileged Privileged = true
@@ -129,39 +130,63 @@ abbrev pub code_part_at : Level → ℕ → Part
 code_part_at l k = code_part l (code_of k)
 
 -- valid, AF and dirty state of stage 1 and of stage 2, S2AP and XN, the steps that read rights
-unfoldable pub stage_words : List ℕ
-stage_words = pairs 8 (state_at 11 12 false) ++ (pairs 8 (state_at 13 14 true) ++ (pairs 16 stage2_at ++ pairs 16 last_at))
+unfoldable pub state1_words : List Pair
+state1_words = pairs 8 (state_at 11 12 false)
 
--- slots of either level
-unfoldable pub slot_words : List ℕ
-slot_words = pairs 16 (slot_part Privileged) ++ pairs 16 (slot_part Unprivileged)
+unfoldable pub state2_words : List Pair
+state2_words = pairs 8 (state_at 13 14 true)
 
--- base rights: under Indirect the codes of either level, under Direct the descriptor and the limits
-unfoldable pub base_words : Bool → Bool → List ℕ
-base_words indirect two =
-    cond indirect (pairs 16 (code_part_at Privileged) ++ pairs 16 (code_part_at Unprivileged)) (pairs 16 (descriptor_at two) ++ pairs 16 (limits_at two))
+unfoldable pub permissions2_words : List Pair
+permissions2_words = pairs 16 stage2_at
 
--- THE PASS AS THE CODE MAKES IT, by tables b of base rights, o of slots and t of the stages. The words at index i of a table, before what follows
-unfoldable pub join_at : List ℕ → ℕ → ℕ → ℕ
-join_at t i w = bit_or (get_or t (i + 1) 0) (bit_and (get_or t i 0) w)
+unfoldable pub last_words : List Pair
+last_words = pairs 16 last_at
+
+-- slots of a level
+unfoldable pub slot_words : Level → List Pair
+slot_words l = pairs 16 (slot_part l)
+
+-- base rights: under Indirect the codes of a level, under Direct the descriptor and the limits
+unfoldable pub code_words : Level → List Pair
+code_words l = pairs 16 (code_part_at l)
+
+unfoldable pub descriptor_words : Bool → List Pair
+descriptor_words two = pairs 16 (descriptor_at two)
+
+unfoldable pub limits_words : Bool → List Pair
+limits_words two = pairs 16 (limits_at two)
+
+-- THE PASS AS THE CODE MAKES IT. What some fields keep and take away, before the word of what follows
+unfoldable pub after : Pair → ℕ → ℕ
+after p w = bit_or p.takes (bit_and p.keeps w)
+
+-- the pair at index i of a table, and the same before what follows
+abbrev pub nothing : Pair
+nothing = record { keeps = 0; takes = 0 }
+
+abbrev pub pair_at : List Pair → ℕ → Pair
+pair_at t i = get_or t i nothing
+
+abbrev pub join_at : List Pair → ℕ → ℕ → ℕ
+join_at t i w = after (pair_at t i) w
 
 abbrev pub whole_number : ℕ
 whole_number = 0x7FFF000000000000
 
-abbrev pub stage2_number : List ℕ → Bool → ℕ → ℕ
-stage2_number t on e = cond on (join_at t (16 + state_of 51 e * 2) (join_at t (32 + permissions_of e * 2) whole_number)) whole_number
+abbrev pub stage2_number : Bool → ℕ → ℕ
+stage2_number on e = cond on (join_at state2_words (state_of 51 e) (join_at permissions2_words (permissions_of e) whole_number)) whole_number
 
 -- the slot that counts: 7, which stops nothing, where no overlay applies
 abbrev pub slot_if : Bool → ℕ → ℕ
 slot_if on v = cond on (v % 16) 7
 
-abbrev pub overlaid_number : List ℕ → ℕ → ℕ → ℕ → ℕ
-overlaid_number o p u w = join_at o (p * 2) (join_at o (32 + u * 2) w)
+abbrev pub overlaid_number : ℕ → ℕ → ℕ → ℕ
+overlaid_number p u w = join_at (slot_words Privileged) p (join_at (slot_words Unprivileged) u w)
 
-abbrev pub slots_number : List ℕ → Setup → ℕ → Bool → Bool → ℕ → ℕ
-slots_number o s d p u w =
+abbrev pub slots_number : Setup → ℕ → Bool → Bool → ℕ → ℕ
+slots_number s d p u w =
     cond (s.control.overlay.privileged || s.control.overlay.unprivileged)
-    (overlaid_number o (slot_if (s.control.overlay.privileged && p) (slot_at s.por.privileged (po_index d)))
+    (overlaid_number (slot_if (s.control.overlay.privileged && p) (slot_at s.por.privileged (po_index d)))
     (slot_if (s.control.overlay.unprivileged && u) (slot_at s.por.unprivileged (po_index d))) w)
     w
 
@@ -173,25 +198,24 @@ limits_if unlimited t = cond unlimited 0 (t % 16)
 abbrev pub last_index : Bool → Bool → ℕ → ℕ
 last_index w p m = m / 2 ^ 49 % 2 + m / 2 ^ 51 % 2 * 4 + (digit w * 2 + digit p * 8)
 
-unfoldable pub direct_number : List ℕ → List ℕ → Control → ℕ → ℕ → ℕ → ℕ
-direct_number b t c d l w =
-    join_at b (permissions_of d * 2)
-    (join_at b (32 + limits_if c.unlimited l * 2)
-    (join_at t (64 + last_index c.wxn c.pan (bit_and (get_or b (permissions_of d * 2) 0) (get_or b (32 + limits_if c.unlimited l * 2) 0)) * 2) w))
+unfoldable pub direct_number : Control → ℕ → ℕ → ℕ → ℕ
+direct_number c d l w =
+    let b = descriptor_words c.two in let t = limits_words c.two in let i = permissions_of d in let j = limits_if c.unlimited l in
+    join_at b i (join_at t j (join_at last_words (last_index c.wxn c.pan (bit_and (pair_at b i).keeps (pair_at t j).keeps)) w))
 
 -- the unprivileged code, which is not read with one level
 abbrev pub code_if : Bool → ℕ → ℕ
 code_if two u = cond two (u % 16) 0
 
-unfoldable pub indirect_number : List ℕ → List ℕ → Setup → ℕ → ℕ → ℕ
-indirect_number b o s d w =
+unfoldable pub indirect_number : Setup → ℕ → ℕ → ℕ
+indirect_number s d w =
     let p = code_at s.pir.privileged (pi_index d) % 16 in let u = code_at s.pir.unprivileged (pi_index d) in
-    join_at b (p * 2) (join_at b (32 + code_if s.control.two u * 2) (slots_number o s d (ltb p 8) (ltb u 8) w))
+    join_at (code_words Privileged) p (join_at (code_words Unprivileged) (code_if s.control.two u) (slots_number s d (ltb p 8) (ltb u 8) w))
 
-unfoldable pub stage1_number : List ℕ → List ℕ → List ℕ → Setup → Leaf → ℕ → ℕ
-stage1_number b o t s f w =
-    cond s.control.indirect (join_at t (state_of 7 f.stage1 * 2) (indirect_number b o s f.stage1 w))
-    (join_at t (state_of 51 f.stage1 * 2) (direct_number b t s.control f.stage1 f.limits (slots_number o s f.stage1 true true w)))
+unfoldable pub stage1_number : Setup → Leaf → ℕ → ℕ
+stage1_number s f w =
+    cond s.control.indirect (join_at state1_words (state_of 7 f.stage1) (indirect_number s f.stage1 w))
+    (join_at state1_words (state_of 51 f.stage1) (direct_number s.control f.stage1 f.limits (slots_number s f.stage1 true true w)))
 
 -- stage 1 off: no base code is read
 unfoldable pub off_number : ℕ → ℕ
@@ -221,10 +245,10 @@ unknown_number w = bit_and unknown_mask w
 abbrev pub known_number : Bool → ℕ → ℕ
 known_number known w = cond known w (unknown_number w)
 
-unfoldable pub leaf_number : List ℕ → List ℕ → List ℕ → Setup → Leaf → ℕ
-leaf_number b o t s f =
+unfoldable pub leaf_number : Setup → Leaf → ℕ
+leaf_number s f =
     levels_number s.control.two
-    (cond s.control.stage1 (stage1_number b o t s f (stage2_number t s.control.stage2 f.stage2)) (off_number (stage2_number t s.control.stage2 f.stage2)))
+    (cond s.control.stage1 (stage1_number s f (stage2_number s.control.stage2 f.stage2)) (off_number (stage2_number s.control.stage2 f.stage2)))
 
 -- THE WORD OF A LEAF, part by part
 abbrev pub stage2_word : Bool → Stage2 → Word

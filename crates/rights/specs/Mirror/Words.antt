@@ -7,6 +7,7 @@ use Rattle.records.specs.Access.{accesses}
 use Rattle.records.specs.Bits.{bit}
 use Rattle.records.specs.Mirror.BitLists.{bits}
 use Rattle.records.specs.declared.access.Access.{Access}
+use Rattle.rights.specs.declared.words.pair.Pair.{Pair}
 
 -- of each access its right, whether it meets a refusal, and what took the right away; whether the privileged base code is refused, the unprivileged one,
 -- and both for px with uw; and whether the memory is known
@@ -87,7 +88,10 @@ keep_of p = bits (keep_bits p)
 unfoldable pub take_of : Part → ℕ
 take_of p = bits (take_bits p)
 
--- a table of n fields' words: what each keeps, and what it takes away
-abbrev pub pairs : ℕ → (ℕ → Part) → List ℕ
+-- what a field keeps and takes away as a pair of numbers, and a table of n fields
+abbrev pub pair_of : Part → Pair
+pair_of p = record { keeps = keep_of p; takes = take_of p }
+
+abbrev pub pairs : ℕ → (ℕ → Part) → List Pair
 pairs zero f = []
-pairs (suc n) f = keep_of (f 0) ∷ take_of (f 0) ∷ pairs n (λ (k : ℕ). f (suc k))
+pairs (suc n) f = pair_of (f 0) ∷ pairs n (λ (k : ℕ). f (suc k))

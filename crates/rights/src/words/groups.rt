@@ -1,70 +1,98 @@
 // The words of a leaf by groups of fields that stand side by side in a descriptor. A long list first makes a table of each group from the tables of single
-// fields: an entry for each value of the group's bits, which has what its fields keep and, as many words further on, what they take away. No public function
-// but `low_group`, `flag_group`, `state_group` and `never_group`, which take the index at which the words of a field begin, has a `requires`. An entry's number is
-// taken apart into its fields here, as records::descriptor::places has them.
-ghost use Rattle.std.specs.Prelude.{◌≡◌, cond, [], ◌∷◌, ◌+◌, ◌≤◌, ◌<◌, length};
-ghost use Rattle.records.specs.Mirror.Places.{group_at};
-ghost use Rattle.rights.specs.Mirror.Groups.{pair_at, before, masked, known_mask, levels_mask, state_at, low_pair, flag_pair, state_pair, never_pair, s2ap_word, limits_pair, codes_pair, applies_at, slots_pair, Grouped, SlotsGrouped, stage2_grouped, slots_grouped, direct_grouped, indirect_grouped, off_grouped, Applied};
+// fields, with an entry for each value of the group's bits. No public function has a `requires`. An entry's number is taken apart into its fields here, as
+// records::descriptor::places has them.
+ghost use Rattle.std.specs.Prelude.{◌≡◌, ℕ, cond, ◌≤◌, ◌<◌, get_or};
+ghost use Rattle.records.specs.declared.descriptor.places.Places.{Places};
+ghost use Rattle.rights.specs.Mirror.Groups.{known_mask, levels_mask, state_at, low_pair, flag_pair, state_pair, never_pair, s2ap_word, limits_pair, codes_pair, applies_at, slots_pair, Grouped, SlotsGrouped, IsStage2, IsStage2If, IsDirect, IsIndirect, stage2_at, stage2_grouped, slots_grouped, direct_grouped, indirect_grouped, off_grouped};
 
-use crate::words::{
-    MASK_ALL, MASK_ONE_LEVEL, MASK_UNKNOWN, WHOLE, code_if, join_stage, last_index, levels_word,
-    limits_if, off_word, slot_if,
+use crate::words::pair::{Pair, Table};
+use crate::words::tables::{
+    descriptor_words, last_words, limits_words, permissions2_words, privileged_code_words,
+    privileged_slot_words, state1_words, state2_words, unprivileged_code_words,
+    unprivileged_slot_words,
 };
+use crate::words::{
+    MASK_ALL, MASK_ONE_LEVEL, MASK_UNKNOWN, WHOLE, code_if, last_index, levels_word, limits_if,
+    off_word, slot_if,
+};
+use records::descriptor::fields::ByMemory;
 use records::descriptor::index::{PIIndex, POIndex};
 use records::descriptor::places::{Places, SlotsPlace, codes_descriptor, slots_descriptor};
 use records::setup::{Control, Setup};
+use records::table::table_of;
 
-// What some fields keep, and what they take away.
-#[derive(Clone, Copy)]
-pub(crate) struct Pair {
-    pub keeps: u64,
-    pub takes: u64,
+// The entries beside which execute never stands in the tables of both: with S2AP 11, and with AP 01.
+const READ_WRITE: usize = 3;
+
+const AP_01: usize = 1;
+
+// The part of the table of slots where overlays apply to the rights of both levels.
+const BOTH_LEVELS: u8 = 48;
+
+// Stage 2's groups: valid with MemAttr (descriptor bits 5 to 0), AF with SH (10 to 8), dirty state with XN (54 to 51). S2AP is the last field.
+#[derive(Drop)]
+pub struct Stage2Groups {
+    low: Table<64>,
+    flags: Table<8>,
+    never: Table<16>,
+    s2ap: [u64; 4],
 }
 
-// The words at index `i` of a table of fields.
-fn pair_at(t: &[u64], i: usize) -> Pair
-    requires { i + 2 ≤ length t.now }
-    ensures { result ≡ pair_at t.now i }
-{
-    Pair {
-        keeps: t[i],
-        takes: t[i + 1],
-    }
+// What stage 2 makes of a descriptor at places `e`.
+pub trait Stage2 {
+    ghost number: { Self → Places → ℕ };
+
+    fn word(&self, e: Places) -> u64
+        ensures { result ≡ number self.now e };
 }
 
-// Fields before others.
-#[tactic(auto, unfolding(crate::specs::Mirror::Groups::before))]
-fn before(p: Pair, q: Pair) -> Pair
-    ensures { result ≡ before p q }
-{
-    Pair {
-        keeps: p.keeps & q.keeps,
-        takes: p.takes | (p.keeps & q.takes),
-    }
+// What stage 1 makes of a descriptor at places `d` with limits `l`, before the word of what follows.
+pub trait Stage1Groups {
+    ghost number: { Self → Places → ℕ → ℕ → ℕ };
+
+    fn word(&self, d: Places, l: u8, w: u64) -> u64
+        ensures { result ≡ number self.now d l w };
 }
 
-#[tactic(auto, unfolding(crate::specs::Mirror::Groups::masked))]
-fn masked(m: u64, p: Pair) -> Pair
-    ensures { result ≡ masked m p }
-{
-    Pair {
-        keeps: m & p.keeps,
-        takes: m & p.takes,
-    }
+// Stage 1's groups under Direct: valid with AttrIndx (bits 4 to 0 and 59), AF with SH (10 to 8), dirty state with PXN and UXN (54 to 51), AP with the limits;
+// and the slots, where an overlay is on.
+#[derive(Drop)]
+pub struct DirectGroups {
+    low: Table<64>,
+    flags: Table<8>,
+    never: Table<16>,
+    limits: Table<64>,
+    slots: Option<Table<64>>,
 }
 
-// All that a word has; and without what is good, where memory is not known.
-fn known_mask(v: u8) -> u64
-    ensures { result ≡ known_mask v }
+// The same under Indirect: valid with AttrIndx, AF with SH and dirty state (10 to 7), the base codes, and the part of the table of slots that they pick.
+#[derive(Drop)]
+pub struct IndirectGroups {
+    low: Table<64>,
+    state: Table<16>,
+    codes: Table<32>,
+    applies: [u8; 32],
+    slots: Option<Table<64>>,
+}
+
+// Stage 1 that is off: it has no table.
+#[derive(Drop)]
+pub struct OffGroups {
+    two: bool,
+}
+
+// All that a word has; and without what is good, where memory is refused.
+fn known_mask(refused: bool) -> u64
+    ensures { result ≡ known_mask refused }
 {
-    if v == 0 {
-        return MASK_ALL;
+    if refused {
+        return MASK_UNKNOWN;
     }
-    MASK_UNKNOWN
+    MASK_ALL
 }
 
 // All that a word has; and what is judged with one level.
-pub fn levels_mask(two: bool) -> u64
+fn levels_mask(two: bool) -> u64
     ensures { result ≡ levels_mask two }
 {
     if two {
@@ -73,230 +101,138 @@ pub fn levels_mask(two: bool) -> u64
     MASK_ONE_LEVEL
 }
 
-// The state of the stage whose words begin at `from`: valid, AF and dirty state.
-fn state_at(t: &[u64; 96], from: usize, valid: usize, af: usize, dirty: usize) -> Pair
-    requires { (from ≤ 16) × (valid < 2) × (af < 2) × (dirty < 2) }
-    ensures { result ≡ state_at t.now from valid af dirty }
+// Valid, AF and dirty state of a stage.
+fn state_at(t: &[Pair; 8], valid: usize, af: usize, dirty: usize) -> Pair
+    requires { (valid < 2) × (af < 2) × (dirty < 2) }
+    ensures { result ≡ state_at t.now valid af dirty }
 {
-    pair_at(t, from + (valid + af * 2 + dirty * 4) * 2)
+    t[valid + af * 2 + dirty * 4]
 }
 
-// Valid, bit 0 of `k`, with AttrIndx or MemAttr, `k / 4`, whose entries in `v` begin at `at`, under the mask `m`.
-fn low_entry(t: &[u64; 96], v: &[u8; 40], from: usize, m: u64, at: usize, k: usize) -> Pair
-    requires { (from ≤ 16) × (at ≤ 16) × (k < 64) }
-    ensures { result ≡ low_pair t.now v.now from m at k }
+// Valid, bit 0 of `k`, with AttrIndx or MemAttr, `k / 4`, under a mask.
+fn low_entry(t: &[Pair; 8], m: &ByMemory, mask: u64, k: usize) -> Pair
+    requires { k < 64 }
+    ensures { result ≡ low_pair t.now m.now mask k }
 {
-    let p = state_at(t, from, k % 2, 1, 0);
-    masked(m, masked(known_mask(v[at + k / 4]), p))
+    let p = state_at(t, k % 2, 1, 0);
+    p.masked(known_mask(m.kind[k / 4])).masked(mask)
 }
 
-// The table of valid with AttrIndx (descriptor bits 4 to 0 and 59) or MemAttr (bits 5 to 0).
-pub fn low_group(t: &[u64; 96], v: &[u8; 40], from: usize, m: u64, at: usize) -> [u64; 128]
-    requires { (from ≤ 16) × (at ≤ 16) }
-    ensures { Grouped 64 (low_pair t.now v.now from m at) result }
+fn low_group(t: &[Pair; 8], m: &ByMemory, mask: u64) -> Table<64>
+    ensures { Grouped 64 (low_pair t.now m.now mask) result }
 {
-    let mut g = [0u64; 128];
-    let mut k: usize = 0;
-    while k < 64 {
-        let p = low_entry(t, v, from, m, at, k);
-        g[k] = p.keeps;
-        g[k + 64] = p.takes;
-        k += 1;
-    }
-    g
+    Table::of(|k| low_entry(t, m, mask, k))
 }
 
-// AF, bit 2 of `k`, with SH, whose entries in `v` begin at `at`.
-fn flag_entry(t: &[u64; 96], v: &[u8; 40], from: usize, at: usize, k: usize) -> Pair
-    requires { (from ≤ 16) × (at ≤ 36) × (k < 8) }
-    ensures { result ≡ flag_pair t.now v.now from at k }
+// AF, bit 2 of `k`, with SH.
+fn flag_entry(t: &[Pair; 8], m: &ByMemory, k: usize) -> Pair
+    requires { k < 8 }
+    ensures { result ≡ flag_pair t.now m.now k }
 {
-    let p = state_at(t, from, 1, k / 4, 0);
-    masked(known_mask(v[at + k % 4]), p)
+    let p = state_at(t, 1, k / 4, 0);
+    p.masked(known_mask(m.sh[k % 4]))
 }
 
-// The table of AF with SH (bits 10 to 8).
-pub fn flag_group(t: &[u64; 96], v: &[u8; 40], from: usize, at: usize) -> [u64; 16]
-    requires { (from ≤ 16) × (at ≤ 36) }
-    ensures { Grouped 8 (flag_pair t.now v.now from at) result }
+fn flag_group(t: &[Pair; 8], m: &ByMemory) -> Table<8>
+    ensures { Grouped 8 (flag_pair t.now m.now) result }
 {
-    let mut g = [0u64; 16];
-    let mut k: usize = 0;
-    while k < 8 {
-        let p = flag_entry(t, v, from, at, k);
-        g[k] = p.keeps;
-        g[k + 8] = p.takes;
-        k += 1;
-    }
-    g
+    Table::of(|k| flag_entry(t, m, k))
 }
 
 // Dirty state, bit 0 of `k`, with SH and AF, under Indirect.
-fn state_entry(t: &[u64; 96], v: &[u8; 40], at: usize, k: usize) -> Pair
-    requires { (at ≤ 36) × (k < 16) }
-    ensures { result ≡ state_pair t.now v.now at k }
+fn state_entry(m: &ByMemory, k: usize) -> Pair
+    requires { k < 16 }
+    ensures { result ≡ state_pair m.now k }
 {
-    let p = before(state_at(t, 0, 1, k / 8, 0), state_at(t, 0, 1, 1, k % 2));
-    masked(known_mask(v[at + k / 2 % 4]), p)
+    let t = state1_words();
+    let p = state_at(t, 1, k / 8, 0).before(state_at(t, 1, 1, k % 2));
+    p.masked(known_mask(m.sh[k / 2 % 4]))
 }
 
-// The table of AF with SH and dirty state under Indirect (bits 10 to 7).
-pub fn state_group(t: &[u64; 96], v: &[u8; 40], at: usize) -> [u64; 32]
-    requires { at ≤ 36 }
-    ensures { Grouped 16 (state_pair t.now v.now at) result }
+fn state_group(m: &ByMemory) -> Table<16>
+    ensures { Grouped 16 (state_pair m.now) result }
 {
-    let mut g = [0u64; 32];
-    let mut k: usize = 0;
-    while k < 16 {
-        let p = state_entry(t, v, at, k);
-        g[k] = p.keeps;
-        g[k + 16] = p.takes;
-        k += 1;
-    }
-    g
+    Table::of(|k| state_entry(m, k))
 }
 
-// Dirty state, bit 0 of `k`, with execute never, `k / 4`: PXN and UXN, or XN. Its words begin at `at` of `b`, beside an AP or S2AP that takes nothing which
+// Dirty state, bit 0 of `k`, with execute never, `k / 4`: PXN and UXN, or XN. Their pairs stand in `b` beside an AP or S2AP, `beside`, that takes nothing which
 // another one leaves.
-fn never_entry(t: &[u64; 96], from: usize, b: &[u64], at: usize, k: usize) -> Pair
-    requires { (from ≤ 16) × (at + 26 ≤ length b.now) × (k < 16) }
-    ensures { result ≡ never_pair t.now from b.now at k }
+fn never_entry(t: &[Pair; 8], b: &[Pair; 16], beside: usize, k: usize) -> Pair
+    requires { (beside < 4) × (k < 16) }
+    ensures { result ≡ never_pair t.now b.now beside k }
 {
-    let p = state_at(t, from, 1, 1, k % 2);
-    before(p, pair_at(b, at + k / 4 * 8))
+    let p = state_at(t, 1, 1, k % 2);
+    p.before(b[beside + k / 4 * 4])
 }
 
-// The table of dirty state with execute never (bits 54 to 51).
-pub fn never_group(t: &[u64; 96], from: usize, b: &[u64], at: usize) -> [u64; 32]
-    requires { (from ≤ 16) × (at + 26 ≤ length b.now) }
-    ensures { Grouped 16 (never_pair t.now from b.now at) result }
+fn never_group(t: &[Pair; 8], b: &[Pair; 16], beside: usize) -> Table<16>
+    requires { beside < 4 }
+    ensures { Grouped 16 (never_pair t.now b.now beside) result }
 {
-    let mut g = [0u64; 32];
-    let mut k: usize = 0;
-    while k < 16 {
-        let p = never_entry(t, from, b, at, k);
-        g[k] = p.keeps;
-        g[k + 16] = p.takes;
-        k += 1;
-    }
-    g
+    Table::of(|k| never_entry(t, b, beside, k))
 }
 
 // AP, bits 1 and 0 of `k`, with the limits and the steps that read rights.
-fn limits_entry(b: &[u64; 64], t: &[u64; 96], c: Control, k: usize) -> Pair
+fn limits_entry(c: Control, k: usize) -> Pair
     requires { k < 64 }
-    ensures { result ≡ limits_pair b.now t.now c k }
+    ensures { result ≡ limits_pair c k }
 {
-    let i = k % 4 * 2;
-    let j = 32 + limits_if(c.unlimited, (k / 4) as u8) * 2;
-    let last = pair_at(t, 64 + last_index(c.wxn, c.pan, b[i] & b[j]) * 2);
-    before(pair_at(b, i), before(pair_at(b, j), last))
+    let first = descriptor_words(c.two)[k % 4];
+    let second = limits_words(c.two)[limits_if(c.unlimited, (k / 4) as u8)];
+    let last = last_words()[last_index(c.wxn, c.pan, first.keeps & second.keeps)];
+    first.before(second.before(last))
 }
 
-// The table of AP with the limits.
-pub fn limits_group(b: &[u64; 64], t: &[u64; 96], c: Control) -> [u64; 128]
-    ensures { Grouped 64 (limits_pair b.now t.now c) result }
+fn limits_group(c: Control) -> Table<64>
+    ensures { Grouped 64 (limits_pair c) result }
 {
-    let mut g = [0u64; 128];
-    let mut k: usize = 0;
-    while k < 64 {
-        let p = limits_entry(b, t, c, k);
-        g[k] = p.keeps;
-        g[k + 64] = p.takes;
-        k += 1;
-    }
-    g
+    Table::of(|k| limits_entry(c, k))
 }
 
 // The base codes of both levels that the descriptor of entry `k` picks.
-fn codes_entry(b: &[u64; 64], s: Setup, k: usize) -> Pair
+fn codes_entry(s: Setup, k: usize) -> Pair
     requires { k < 32 }
-    ensures { result ≡ codes_pair b.now s k }
+    ensures { result ≡ codes_pair s k }
 {
     let i = PIIndex::of(codes_descriptor(k));
     let p = (i.code(s.pir.privileged) % 16) as usize;
     let u = code_if(s.control.two, i.code(s.pir.unprivileged));
-    before(pair_at(b, p * 2), pair_at(b, 32 + u * 2))
+    privileged_code_words()[p].before(unprivileged_code_words()[u])
 }
 
-// The table of base codes.
-pub fn codes_group(b: &[u64; 64], s: Setup) -> [u64; 64]
-    ensures { Grouped 32 (codes_pair b.now s) result }
+fn codes_group(s: Setup) -> Table<32>
+    ensures { Grouped 32 (codes_pair s) result }
 {
-    let mut g = [0u64; 64];
-    let mut k: usize = 0;
-    while k < 32 {
-        let p = codes_entry(b, s, k);
-        g[k] = p.keeps;
-        g[k + 32] = p.takes;
-        k += 1;
-    }
-    g
+    Table::of(|k| codes_entry(s, k))
 }
 
 // The slots of both levels that the descriptor of entry `k` picks, where bits 4 and 5 of `k`, the part, say whether overlays apply.
-fn slots_entry(o: &[u64; 64], s: Setup, k: usize) -> Pair
+fn slots_entry(s: Setup, k: usize) -> Pair
     requires { k < 64 }
-    ensures { result ≡ slots_pair o.now s k }
+    ensures { result ≡ slots_pair s k }
 {
     let i = POIndex::of(slots_descriptor(k));
     let on = s.control.overlay;
     let p = slot_if(on.privileged & (k / 16 % 2 == 1), i.slot(s.por.privileged));
     let u = slot_if(on.unprivileged & (k / 32 == 1), i.slot(s.por.unprivileged));
-    before(pair_at(o, p * 2), pair_at(o, 32 + u * 2))
+    privileged_slot_words()[p].before(unprivileged_slot_words()[u])
 }
 
-// The table of slots, with a part for each choice of the base codes to which overlays apply.
-fn slots_group(o: &[u64; 64], s: Setup) -> [u64; 128]
-    ensures { Grouped 64 (slots_pair o.now s) result }
+fn slots_table(s: Setup) -> Table<64>
+    ensures { Grouped 64 (slots_pair s) result }
 {
-    let mut g = [0u64; 128];
-    let mut k: usize = 0;
-    while k < 64 {
-        let p = slots_entry(o, s, k);
-        g[k] = p.keeps;
-        g[k + 64] = p.takes;
-        k += 1;
-    }
-    g
+    Table::of(|k| slots_entry(s, k))
 }
 
-// The table of slots where an overlay is on, and else an empty one.
-pub fn slots_table(o: &[u64; 64], s: Setup) -> [u64; 128]
-    ensures { SlotsGrouped o.now s result }
+// The table of slots, with a part for each choice of the base codes to which overlays apply, where an overlay is on.
+fn slots_group(s: Setup) -> Option<Table<64>>
+    ensures { SlotsGrouped s result }
 {
     let on = s.control.overlay;
     if on.privileged | on.unprivileged {
-        return slots_group(o, s);
+        return Some(slots_table(s));
     }
-    [0u64; 128]
-}
-
-// The word of S2AP, the last field.
-fn s2ap_word(t: &[u64; 96], k: usize) -> u64
-    requires { k < 4 }
-    ensures { result ≡ s2ap_word t.now k }
-{
-    join_stage(t, 32 + k * 2, WHOLE)
-}
-
-pub fn s2ap_words(t: &[u64; 96]) -> [u64; 4]
-    ensures { result ≡ s2ap_word t.now 0 ∷ s2ap_word t.now 1 ∷ s2ap_word t.now 2 ∷ s2ap_word t.now 3 ∷ [] }
-{
-    [
-        s2ap_word(t, 0),
-        s2ap_word(t, 1),
-        s2ap_word(t, 2),
-        s2ap_word(t, 3),
-    ]
-}
-
-// The words at entry `k` of a group of `n`, before the word of what follows.
-fn join_group(g: &[u64], n: usize, k: usize, w: u64) -> u64
-    requires { (k < n) × (n + n ≤ length g.now) }
-    ensures { result ≡ group_at g.now n k w }
-{
-    g[k + n] | (g[k] & w)
+    None
 }
 
 // `n` where `b` holds, and else 0.
@@ -320,99 +256,159 @@ fn applies_entry(s: Setup, k: usize) -> u8
     weight(p < 8, 16) + weight(u < 8, 32)
 }
 
-// The table of it, entry by entry as that of the base codes.
-pub fn applies_table(s: Setup) -> [u8; 32]
-    ensures { Applied s result }
+fn applies_group(s: Setup) -> [u8; 32]
+    ensures { (k : ℕ) → k < 32 → get_or result k 0 ≡ applies_at s k }
 {
-    let mut a = [0u8; 32];
-    let mut k: usize = 0;
-    while k < 32 {
-        a[k] = applies_entry(s, k);
-        k += 1;
-    }
-    a
+    table_of(|k| applies_entry(s, k))
 }
 
-// Stage 2, where it is on, of a descriptor at places `e`.
-#[tactic(auto, unfolding(crate::specs::Mirror::Groups::stage2_grouped))]
-pub fn stage2_grouped(
-    low: &[u64; 128],
-    flag: &[u64; 16],
-    never: &[u64; 32],
-    s2ap: &[u64; 4],
-    on: bool,
-    e: Places,
-) -> u64
-    ensures { result ≡ stage2_grouped low.now flag.now never.now s2ap.now on e }
+// The word of S2AP, the last field.
+fn s2ap_word(k: usize) -> u64
+    requires { k < 4 }
+    ensures { result ≡ s2ap_word k }
 {
-    if on {
-        let i = e.ap % 4;
-        let left = join_group(never, 16, e.never % 16, s2ap[i]);
-        return join_group(low, 64, e.low2 % 64, join_group(flag, 8, e.flags % 8, left));
-    }
-    WHOLE
+    permissions2_words()[k].join(WHOLE)
 }
 
 // The slots, where an overlay is on, of a descriptor at place `d` in a part of the table.
-pub fn slots_grouped(slots: &[u64; 128], on: bool, d: SlotsPlace, part: u8, w: u64) -> u64
-    ensures { result ≡ slots_grouped slots.now on d part w }
+fn slots_grouped(slots: &Option<Table<64>>, d: SlotsPlace, part: u8, w: u64) -> u64
+    ensures { result ≡ slots_grouped slots.now d part w }
+{
+    match slots {
+        Some(t) => {
+            let p = Pair {
+                keeps: d.pick(&t.keeps, part),
+                takes: d.pick(&t.takes, part),
+            };
+            p.join(w)
+        }
+        None => w,
+    }
+}
+
+impl Stage2Groups {
+    // The tables, where `m` has what is refused of stage 2's memory.
+    pub fn of(m: &ByMemory) -> Stage2Groups
+        ensures { IsStage2 m.now result }
+    {
+        let t = state2_words();
+        Stage2Groups {
+            low: low_group(t, m, levels_mask(true)),
+            flags: flag_group(t, m),
+            never: never_group(t, permissions2_words(), READ_WRITE),
+            s2ap: table_of(|k| s2ap_word(k)),
+        }
+    }
+}
+
+impl Stage2 for Stage2Groups {
+    ghost number = { stage2_at };
+
+    #[tactic(auto, unfolding(crate::specs::Mirror::Groups::stage2_at))]
+    fn word(&self, e: Places) -> u64 {
+        let left = self.never.join(e.never % 16, self.s2ap[e.ap % 4]);
+        self.low
+            .join(e.low2 % 64, self.flags.join(e.flags % 8, left))
+    }
+}
+
+// The tables of stage 2, where it is on.
+pub fn stage2_groups(on: bool, m: &ByMemory) -> Option<Stage2Groups>
+    ensures { IsStage2If m.now on result }
 {
     if on {
-        return d.join(slots, part, w);
+        return Some(Stage2Groups::of(m));
     }
-    w
+    None
 }
 
-// Stage 1 under Direct, of a descriptor at places `d` with limits `l`, before the word of what follows.
-#[tactic(auto, unfolding(crate::specs::Mirror::Groups::direct_grouped))]
-pub fn direct_grouped(
-    low: &[u64; 128],
-    flag: &[u64; 16],
-    never: &[u64; 32],
-    limits: &[u64; 128],
-    d: Places,
-    l: u8,
-    w: u64,
-) -> u64
-    ensures { result ≡ direct_grouped low.now flag.now never.now limits.now d l w }
-{
-    let left = join_group(limits, 64, d.ap % 4 + (l % 16) as usize * 4, w);
-    let kept = join_group(
-        flag,
-        8,
-        d.flags % 8,
-        join_group(never, 16, d.never % 16, left),
-    );
-    join_group(low, 64, d.low1 % 64, kept)
+// Nothing is taken away where it is off.
+impl Stage2 for Option<Stage2Groups> {
+    ghost number = { stage2_grouped };
+
+    fn word(&self, e: Places) -> u64 {
+        match self {
+            Some(on) => on.word(e),
+            None => WHOLE,
+        }
+    }
 }
 
-// Stage 1 under Indirect.
-#[tactic(auto, unfolding(crate::specs::Mirror::Groups::indirect_grouped))]
-pub fn indirect_grouped(
-    low: &[u64; 128],
-    state: &[u64; 32],
-    codes: &[u64; 64],
-    d: Places,
-    w: u64,
-) -> u64
-    ensures { result ≡ indirect_grouped low.now state.now codes.now d w }
-{
-    let c = d.codes;
-    let left = join_group(state, 16, d.state % 16, c.join(codes, w));
-    join_group(low, 64, d.low1 % 64, left)
+impl DirectGroups {
+    // The tables of a setup, where `m` has what is refused of stage 1's memory.
+    pub fn of(s: Setup, m: &ByMemory) -> DirectGroups
+        ensures { IsDirect s m.now result }
+    {
+        let t = state1_words();
+        let two = s.control.two;
+        DirectGroups {
+            low: low_group(t, m, levels_mask(two)),
+            flags: flag_group(t, m),
+            never: never_group(t, descriptor_words(two), AP_01),
+            limits: limits_group(s.control),
+            slots: slots_group(s),
+        }
+    }
 }
 
-// Stage 1 off: stage 2 alone.
-pub fn off_grouped(
-    low: &[u64; 128],
-    flag: &[u64; 16],
-    never: &[u64; 32],
-    s2ap: &[u64; 4],
-    on: bool,
-    two: bool,
-    e: Places,
-) -> u64
-    ensures { result ≡ off_grouped low.now flag.now never.now s2ap.now on two e }
-{
-    levels_word(two, off_word(stage2_grouped(low, flag, never, s2ap, on, e)))
+impl Stage1Groups for DirectGroups {
+    ghost number = { direct_grouped };
+
+    #[tactic(auto, unfolding(crate::specs::Mirror::Groups::direct_grouped))]
+    fn word(&self, d: Places, l: u8, w: u64) -> u64 {
+        let overlaid = slots_grouped(&self.slots, d.slots, BOTH_LEVELS, w);
+        let left = self.limits.join(d.ap % 4 + (l % 16) as usize * 4, overlaid);
+        let kept = self
+            .flags
+            .join(d.flags % 8, self.never.join(d.never % 16, left));
+        self.low.join(d.low1 % 64, kept)
+    }
+}
+
+impl IndirectGroups {
+    // The tables of a setup, where `m` has what is refused of stage 1's memory.
+    pub fn of(s: Setup, m: &ByMemory) -> IndirectGroups
+        ensures { IsIndirect s m.now result }
+    {
+        IndirectGroups {
+            low: low_group(state1_words(), m, levels_mask(s.control.two)),
+            state: state_group(m),
+            codes: codes_group(s),
+            applies: applies_group(s),
+            slots: slots_group(s),
+        }
+    }
+}
+
+impl Stage1Groups for IndirectGroups {
+    ghost number = { indirect_grouped };
+
+    #[tactic(auto, unfolding(crate::specs::Mirror::Groups::indirect_grouped))]
+    fn word(&self, d: Places, _: u8, w: u64) -> u64 {
+        let c = d.codes;
+        let overlaid = slots_grouped(&self.slots, d.slots, c.pick(&self.applies), w);
+        let codes = Pair {
+            keeps: c.pick(&self.codes.keeps),
+            takes: c.pick(&self.codes.takes),
+        };
+        let left = self.state.join(d.state % 16, codes.join(overlaid));
+        self.low.join(d.low1 % 64, left)
+    }
+}
+
+impl OffGroups {
+    // With two levels, or with one.
+    pub fn of(two: bool) -> OffGroups
+        ensures { result.two ≡ two }
+    {
+        OffGroups { two }
+    }
+}
+
+impl Stage1Groups for OffGroups {
+    ghost number = { off_grouped };
+
+    fn word(&self, _: Places, _: u8, w: u64) -> u64 {
+        levels_word(self.two, off_word(w))
+    }
 }

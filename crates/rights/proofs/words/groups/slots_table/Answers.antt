@@ -1,7 +1,6 @@
--- The table is made where an overlay is on; else nothing is asked of it.
-use Rattle.std.proofs.Common.{sym, ◌∙◌}
-use Rattle.records.proofs.Cases.{clash}
+-- Each entry is what the closure gives.
+use Rattle.std.proofs.Common.{rules}
 use Rattle.rights.proofs.words.groups.slots_table.Goals as goal
 
 pub returns : goal.returns
-returns c e = let z = sym c.if-on.false ∙ e in clash (cc)
+returns c = λ k h. let e = c.of.ensures k h in search rules

@@ -1,0 +1,6 @@
+-- Each entry is what the closure gives.
+use Rattle.std.proofs.Common.{rules}
+use Rattle.rights.proofs.words.groups.applies_group.Goals as goal
+
+pub returns : goal.returns
+returns c = λ k h. let e = c.table_of.ensures 0 k h in search rules
