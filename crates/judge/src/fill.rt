@@ -4,8 +4,6 @@ ghost use Rattle.records.specs.Leaf.{leaf_count};
 ghost use Rattle.records.specs.declared.setup.Setup.{Setup};
 ghost use Rattle.judge.specs.Mirror.Words.{marks_in, total, put_at, clear, Found, found_at};
 
-use records::number::wide;
-
 // What is read of a leaf: its word, and the bytes that may be too high.
 #[derive(Clone, Copy)]
 pub(crate) struct LeafWord {
@@ -36,10 +34,11 @@ pub(crate) fn marks_in(w: u64) -> u64
 pub(crate) fn sum_up(marks: u64, limits: u8, forbidden: u8) -> u64
     ensures { result ≡ total marks limits forbidden }
 {
-    ((marks % 256) | (marks >> 14)) | ((wide(limits) >> 4) | (wide(forbidden) >> 6))
+    ((marks % 256) | (marks >> 14)) | ((u64::from(limits) >> 4) | (u64::from(forbidden) >> 6))
 }
 
-// The eight bytes of a word, from index `at` on: its six causes, and two more, so that the compiler makes one store of them.
+// The eight bytes of a word, from index `at` on: its six causes, and two more, so that the compiler makes one store of them. They
+// are put one by one, not by `to_le_bytes`, since must-fail/cause_of_the_next_access takes one from the next place.
 #[tactic(auto, unfolding(crate::specs::Mirror::Words::put_at))]
 pub(crate) fn put(causes: &mut [u8], at: usize, w: u64)
     requires { at + 8 ≤ length causes.old }

@@ -3,8 +3,6 @@ ghost use Rattle.std.specs.Prelude.{◌≡◌, ℕ, ◌<◌, get_or};
 ghost use Rattle.planner.specs.Mirror.Masks.{first_of};
 ghost use Rattle.planner.specs.Register.{cut_mask, pack_from};
 
-use records::number::wide;
-
 // The mask without the bits taken.
 pub(crate) fn cut_mask(mask: u8, taken: u8) -> u8
     ensures { result ≡ cut_mask mask taken }
@@ -27,7 +25,7 @@ pub(crate) fn pack(masks: [u8; 8]) -> u64
 {
     let mut r: u64 = 0;
     for s in (0..8).rev() {
-        r = r * 16 + wide(masks[s]);
+        r = r * 16 + u64::from(masks[s]);
     }
     r
 }

@@ -10,7 +10,7 @@ pub mod access;
 pub mod descriptor;
 pub mod leaf;
 pub mod mapfile;
-pub mod number;
+mod number;
 pub mod refusal;
 pub mod setup;
 pub mod table;

@@ -80,7 +80,7 @@ fn words_of(s: &[u8]) -> Words
     ensures { result ≡ words_of s.now }
 {
     Words {
-        control: half(s, 0) as u32,
+        control: half(s, 0),
         mair: word(s, 4),
         mair2: word(s, 12),
         pir: PerLevel {

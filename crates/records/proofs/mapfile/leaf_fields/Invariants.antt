@@ -1,16 +1,11 @@
--- What is found from the first leaf field on is the n fields whose values are in place, and then what is found from `at` on. The measure is what is left of
--- the file.
-use Rattle.std.proofs.Common.{length, ◌-◌, ◌≡◌, ◌*◌, ◌≤◌, drop, take}
+-- What is found from the first leaf field on is the fields whose values are in place, and then what is found from the next place on.
+use Rattle.std.proofs.Common.{length, ◌+◌, ◌-◌, ◌≡◌, ◌*◌, ◌≤◌, drop, take}
 use Rattle.records.specs.MapFile.{prepend, leaves_of}
 use Rattle.records.proofs.mapfile.leaf_fields.Given as goal
 
-abbrev pub invariant-loop-at : goal.invariant-loop-at
-invariant-loop-at l = record {
-  few : l.n ≤ 2048;
-  within : l.at ≤ length l.file;
+abbrev pub invariant-loop-n : goal.invariant-loop-n
+invariant-loop-n l = record {
+  within : 55 + l.n * 21 ≤ length l.file;
   kept : length l.values ≡ length l.fn.values;
-  found : leaves_of 2048 (drop 55 l.file) ≡ prepend l.n (take (l.n * 18) l.values) (leaves_of (2048 - l.n) (drop l.at l.file));
+  found : leaves_of 2048 (drop 55 l.file) ≡ prepend l.n (take (l.n * 18) l.values) (leaves_of (2048 - l.n) (drop (55 + l.n * 21) l.file));
 }
-
-abbrev pub decreases-loop-at : goal.decreases-loop-at
-decreases-loop-at l = length l.file - l.at
