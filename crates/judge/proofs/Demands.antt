@@ -29,10 +29,11 @@ use Rattle.judge.specs.Answers.{Judgement}
 use Rattle.records.specs.Values.{Check}
 use Rattle.records.specs.declared.refusal.Refusal.{Refusal}
 use Rattle.judge.specs.Answers.{refusing}
+use Rattle.rights.specs.declared.answers.Stage.TheVariants.{One, Two}
 
 -- an outcome of the stages that is no refusal is allowed or a named fault
-named-one : (x y : Answer) → Named 1 x → Named 2 y → (m : Memory) → ((k : Refusal) → outcome x y m ≡ (Err (Refused k)) → ⊥) → Demand1 (outcome x y m)
-named-one _ _ permits permits m h = (inl (refl, refl, refl, refl), cause-fixes {s = 1} permits)
+named-one : (x y : Answer) → Named One x → Named Two y → (m : Memory) → ((k : Refusal) → outcome x y m ≡ (Err (Refused k)) → ⊥) → Demand1 (outcome x y m)
+named-one _ _ permits permits m h = (inl (refl, refl, refl, refl), cause-fixes {s = One} permits)
 named-one _ _ permits (faults g e f) m h = (inr (inl (refl, f.0, refl, refl)), cause-fixes (faults g e f))
 named-one _ _ permits (refuses n g) m h = absurd (h n refl)
 named-one _ y (faults g e f) q m h = (inr (inl (refl, f.0, refl, refl)), cause-fixes (faults g e f))
@@ -65,7 +66,7 @@ module _ (b c : List ℕ) (n : ℕ) where
   one_answer : (x : Check) → first_refusal b c n ≡ x → Demand1 (if_passes x refusing (outcome_of s f n))
   one_answer (Ok u) e =
       named-one (stage1 s f n) (stage2 s f n) (stage1-named s _ _ _) (stage2-named s _ _) (memory s f n) (no-refusal s f n (access-passes b c n e))
-  one_answer (Err k) e = (inr (inr (first-number b c n k e, refl, refl, refl, refl, refl)), cause-fixes {s = 1} permits)
+  one_answer (Err k) e = (inr (inr (first-number b c n k e, refl, refl, refl, refl, refl)), cause-fixes {s = One} permits)
 
   -- Demand 2
   refused-only : (x : Check) → first_refusal b c n ≡ x → (k : Refusal) → if_passes x refusing (outcome_of s f n) ≡ Err (Refused k)
@@ -105,7 +106,7 @@ module _ (b c : List ℕ) (n : ℕ) where
       not-0 : (k : ℕ) → 1 ≤ k → eqb k 0 ≡ false
       not-0 k h = ne_eqb k 0 (λ q. omega arith)
 
-      go : (x : Answer) → Named 1 x → (y : Answer) → Named 2 y → ((k : Refusal) → outcome x y (memory s f n) ≡ (Err (Refused k)) → ⊥)
+      go : (x : Answer) → Named One x → (y : Answer) → Named Two y → ((k : Refusal) → outcome x y (memory s f n) ≡ (Err (Refused k)) → ⊥)
           → eqb (cond (permitted x) (cause_of y) (cause_of x)) 0 ≡ (permitted x && permitted y)
       go _ permits _ permits r = refl
       go _ permits _ (faults g e t) r = not-0 g.cause t.0

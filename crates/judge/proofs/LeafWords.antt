@@ -43,6 +43,7 @@ use Rattle.judge.specs.Answers.{LeafRights}
 use Rattle.judge.specs.Answers.{Judgement}
 use Rattle.records.specs.Values.{Check}
 use Rattle.records.specs.declared.refusal.Refusal.{Refusal}
+use Rattle.rights.specs.declared.answers.Stage.TheVariants.{One, Two}
 
 -- whether a judgement refuses; and if it does not, whether it allows, and its cause
 abbrev Judged : Judgement → Bool → Bool → ℕ → Type 0
@@ -93,10 +94,10 @@ own-cause (Err (Faulted g)) r p c h e = h.2
 own-cause (Err (Refused n)) r p c h e = let z : true ≡ false = sym h ∙ e in clash (cc)
 
 -- a cause is one of fifteen
-named-stages : (x y : Answer) → Named 1 x → Named 2 y → Fixed (follow x y)
+named-stages : (x y : Answer) → Named One x → Named Two y → Fixed (follow x y)
 named-stages _ y permits q = cause-fixes q
-named-stages _ y (faults g e h) q = cause-fixes {s = 1} (faults g e h)
-named-stages _ y (refuses n h) q = cause-fixes {s = 1} (refuses n h)
+named-stages _ y (faults g e h) q = cause-fixes {s = One} (faults g e h)
+named-stages _ y (refuses n h) q = cause-fixes {s = One} (refuses n h)
 
 small-cause : (x : Answer) (r p : Bool) (c : ℕ) → Agrees x r p c → Fixed x → r ≡ false → c < 16
 small-cause (Ok u) r p c h f e = let z = h.2 in omega arith

@@ -36,6 +36,7 @@ use Rattle.records.specs.Values.{Check}
 use Rattle.records.specs.declared.refusal.Refusal.{Refusal}
 use Rattle.records.specs.Values.{refusal_number}
 use Rattle.judge.specs.Answers.{refusing}
+use Rattle.rights.specs.declared.answers.Stage.TheVariants.{One, Two}
 
 -- what both stages give an access that nothing refuses
 abbrev pub outcome : Answer → Answer → Memory → Judgement
@@ -111,7 +112,7 @@ module _ (s : Setup) (f : Leaf) (n : ℕ) where
           pick (inl h) = rw h (omega arith, omega arith)
           pick (inr h) = rw h (omega arith, omega arith)
 
-      go : (p : Answer) → Named 1 p → (q : Answer) → Named 2 q
+      go : (p : Answer) → Named One p → (q : Answer) → Named Two q
           → steps_refusal p q (check_of s (stage1_of f.stage1) (stage2_of f.stage2)) ≡ Err k → (6 ≤ refusal_number k) × (refusal_number k ≤ 9)
       go _ permits _ permits e = attributes e
       go _ permits _ (faults j p h) e = clash (cc)

@@ -4,7 +4,7 @@ use Rattle.std.specs.Prelude.{ℕ, Result, Ok, Err}
 use Rattle.records.specs.Values.{Values, refusal, refusal_number, faulted, allowed, with_rights, with_count}
 use Rattle.records.specs.declared.refusal.LeafRefusal.{LeafRefusal}
 use Rattle.records.specs.declared.refusal.Refusal.{Refusal}
-use Rattle.rights.specs.Answers.{kind_number}
+use Rattle.rights.specs.Answers.{stage_number, kind_number}
 use Rattle.rights.specs.declared.answers.Stop.{Stop}
 use Rattle.rights.specs.declared.answers.Stop.TheVariants.{Faulted, Refused}
 use Rattle.attributes.specs.declared.Memory.{Memory}
@@ -27,7 +27,7 @@ refusing r = Err (Refused r)
 
 abbrev pub judgement_values : Judgement → Values
 judgement_values (Ok m) = allowed m.byte m.sh
-judgement_values (Err (Faulted g)) = faulted g.stage (kind_number g.kind) g.cause
+judgement_values (Err (Faulted g)) = faulted (stage_number g.stage) (kind_number g.kind) g.cause
 judgement_values (Err (Refused r)) = refusal (refusal_number r) 0
 
 abbrev pub leaf_values : LeafRights → Values

@@ -5,6 +5,8 @@ use Rattle.rights.specs.declared.answers.Kind.{Kind}
 use Rattle.rights.specs.declared.answers.Kind.TheVariants.{Translation, AccessFlag, Permission}
 use Rattle.rights.specs.declared.answers.Stop.TheVariants.{Faulted}
 use Rattle.judge.specs.Answers.{Judgement}
+use Rattle.rights.specs.declared.answers.Stage.TheVariants.{One, Two}
+use Rattle.rights.specs.declared.answers.Stage.{Stage}
 
 -- the k little-endian bytes of a number
 abbrev pub bytes_of : ℕ → ℕ → List ℕ
@@ -36,7 +38,7 @@ abbrev pub allowed : ℕ → ℕ → Judgement
 allowed b sh = Ok (record { byte = b; sh = sh })
 
 -- a fault with the cause that request A1 gives it
-abbrev pub fault : ℕ → Kind → ℕ → Judgement
+abbrev pub fault : Stage → Kind → ℕ → Judgement
 fault s k c = Err (Faulted (record { stage = s; kind = k; cause = c }))
 
 -- control 7, and with FWB
@@ -50,12 +52,12 @@ fwb = 0x207
 abbrev pub starred : List Case
 starred =
     row plain 0 0x747 0x7FF 4 (allowed 0xFF 3) (59 ∷ []) ∷
-    row plain 0 0x747 0x7FF 2 (fault 1 Permission 5) [] ∷
+    row plain 0 0x747 0x7FF 2 (fault One Permission 5) [] ∷
     row plain 2 0x747 0x7FF 2 (allowed 0xFF 3) (45 ∷ []) ∷
-    row plain 0 0x747 0x77F 4 (fault 2 Permission 9) [] ∷
-    row plain 2 0x747 0x77F 4 (fault 1 Permission 2) [] ∷
-    row plain 0 0x346 0x7FF 0 (fault 1 Translation 11) [] ∷
-    row plain 0 0x347 0x7FF 0 (fault 1 AccessFlag 12) [] ∷
+    row plain 0 0x747 0x77F 4 (fault Two Permission 9) [] ∷
+    row plain 2 0x747 0x77F 4 (fault One Permission 2) [] ∷
+    row plain 0 0x346 0x7FF 0 (fault One Translation 11) [] ∷
+    row plain 0 0x347 0x7FF 0 (fault One AccessFlag 12) [] ∷
     row plain 0 0x747 0x7D7 0 (allowed 0x44 2) [] ∷
     row plain 0 0x74F 0x7CF 0 (allowed 0x04 2) [] ∷
     row fwb 0 0x753 0x7DB 0 (allowed 0xEE 3) [] ∷

@@ -42,21 +42,23 @@ use Rattle.records.specs.declared.refusal.Refusal.TheVariants.{ReservedCode, Unj
 use Rattle.rights.specs.declared.answers.Stop.TheVariants.{Faulted, Refused}
 use Rattle.rights.specs.Answers.{Answer}
 use Rattle.rights.specs.declared.indirect.Code.{Code}
+use Rattle.rights.specs.declared.answers.Stage.TheVariants.{One, Two}
+use Rattle.rights.specs.declared.answers.Stage.{Stage}
 
 -- the fault that a descriptor gives every access, by its valid bit, with cause t or f
-abbrev first_fault : ℕ → ℕ → ℕ → Bool → Fault
+abbrev first_fault : Stage → ℕ → ℕ → Bool → Fault
 first_fault s t f v = record { stage = s; kind = cond v AccessFlag Translation; cause = cond v f t }
 
 -- what stage 2 answers to an access that reaches it, where g is the fault of every access and c the cause of a missing right
 abbrev stage2_as : Stage2Pass → Fault → ℕ → Level → Right → Answer
-stage2_as (Stage2Pass.Granted k) g c l r = fault_unless (has_right (level_in k l) r) 2 Permission c
+stage2_as (Stage2Pass.Granted k) g c l r = fault_unless (has_right (level_in k l) r) Two Permission c
 stage2_as Stage2Pass.Nothing g c l r = Err (Faulted g)
 stage2_as (Stage2Pass.Refused n) g c l r = Err (Refused n)
 
 -- what stage 1 answers to an access
 abbrev stage1_as : PerLevel Bool → Stage1Pass → ℕ → Fault → ℕ → Level → Right → Answer
 stage1_as o (Stage1Pass.Granted b) v g c l r =
-    follow (fault_unless (has_right (level_in b.rights l) r) 1 Permission c) (slot_answer (of_level o l && of_level b.overlay l) v r)
+    follow (fault_unless (has_right (level_in b.rights l) r) One Permission c) (slot_answer (of_level o l && of_level b.overlay l) v r)
 stage1_as o Stage1Pass.Nothing v g c l r = Err (Faulted g)
 stage1_as o (Stage1Pass.Refused n) v g c l r = Err (Refused n)
 
@@ -68,14 +70,14 @@ never-overlaid false Unprivileged = refl
 
 stage2-as : (on : Bool) (d : Stage2) (l : Level) (r : Right)
     → cond on (stage2_answer d (access_of l r)) (Ok tt)
-    ≡ stage2_as (stage2_pass on d) (first_fault 2 13 14 d.valid) (stage2_cause d (access_of l r)) l r
+    ≡ stage2_as (stage2_pass on d) (first_fault Two 13 14 d.valid) (stage2_cause d (access_of l r)) l r
 unfolding stage2_answer stage2_pass
 stage2-as on d l r = go on d.valid d.af d.bit51 (stage2_cause d (access_of l r))
   where
     go : (o v f b : Bool) (c : ℕ)
-        → cond o (follow (descriptor_answer 2 13 14 v f b) (fault_unless (has_right (level_in (stage2_rights d) l) r) 2 Permission c)) (Ok tt)
+        → cond o (follow (descriptor_answer Two 13 14 v f b) (fault_unless (has_right (level_in (stage2_rights d) l) r) Two Permission c)) (Ok tt)
         ≡ stage2_as (cond o (cond (v && f) (cond b (Stage2Pass.Refused Unjudged) (Stage2Pass.Granted (stage2_rights d))) Stage2Pass.Nothing) (Stage2Pass.Granted everything))
-        (first_fault 2 13 14 v) c l r
+        (first_fault Two 13 14 v) c l r
     go false v f b c = rw (has-everything l r)
     go true false f b c = refl
     go true true false b c = refl
@@ -92,7 +94,7 @@ base-as s d t a =
     go : (k : PerLevel Code) (i v u : Bool) (c : ℕ)
         → follow (refuse_if (i && v) ReservedCode)
         (follow (refuse_if (i && u) Unjudged)
-        (follow (fault_unless (has (left_after everything (cond i (fixed 1 (code_rights s.control.two k) ∷ []) (direct_steps s.control d t))) a) 1 Permission c)
+        (follow (fault_unless (has (left_after everything (cond i (fixed 1 (code_rights s.control.two k) ∷ []) (direct_steps s.control d t))) a) One Permission c)
         (overlay_answer s d (cond i (code_overlays k) (record { privileged = true; unprivileged = true })) a)))
         ≡ base_from s d c a
         (cond i
@@ -106,7 +108,7 @@ base-as s d t a =
 
 stage1-as : (s : Setup) (d : Stage1) (t : Limits) (l : Level) (r : Right)
     → cond s.control.stage1 (stage1_answer s d t (access_of l r)) (Ok tt)
-    ≡ stage1_as s.control.overlay (stage1_pass s d t) (slot_at (of_level s.por l) d.poindex) (first_fault 1 11 12 d.valid)
+    ≡ stage1_as s.control.overlay (stage1_pass s d t) (slot_at (of_level s.por l) d.poindex) (first_fault One 11 12 d.valid)
     (base_cause s d t (access_of l r)) l r
 unfolding stage1_answer stage1_pass
 stage1-as s d t l r =
@@ -114,10 +116,10 @@ stage1-as s d t l r =
     (go s.control.stage1 d.valid d.af (dirty s.control d) (base_cause s d t (access_of l r)) (base_of s d t))
   where
     go : (o v f b : Bool) (c : ℕ) (x : BaseAnswer)
-        → cond o (follow (descriptor_answer 1 11 12 v f b) (base_from s d c (access_of l r) x)) (Ok tt)
+        → cond o (follow (descriptor_answer One 11 12 v f b) (base_from s d c (access_of l r) x)) (Ok tt)
         ≡ stage1_as s.control.overlay
         (cond o (cond (v && f) (cond b (Stage1Pass.Refused Unjudged) (from_base x)) Stage1Pass.Nothing) (Stage1Pass.Granted (record { rights = everything; overlay = record { privileged = false; unprivileged = false } })))
-        (slot_at (of_level s.por l) d.poindex) (first_fault 1 11 12 v) c l r
+        (slot_at (of_level s.por l) d.poindex) (first_fault One 11 12 v) c l r
     go false v f b c x = rw (has-everything l r, never-overlaid (of_level s.control.overlay l) l)
     go true false f b c x = refl
     go true true false b c x = refl
@@ -128,7 +130,7 @@ stage1-as s d t l r =
 -- one access: base right b, the cause c where it is missing, overlay on, slot reserved, slot's bit v, and what stage 2 answers
 abbrev answer : Bool → ℕ → Bool → Bool → Bool → Answer → Answer
 answer b c on reserved v y =
-    follow (follow (fault_unless b 1 Permission c) (cond on (follow (refuse_if reserved ReservedCode) (fault_unless v 1 Overlay 8)) (Ok tt))) y
+    follow (follow (fault_unless b One Permission c) (cond on (follow (refuse_if reserved ReservedCode) (fault_unless v One Overlay 8)) (Ok tt))) y
 
 -- what stands where a level is refused
 abbrev when_refused : LevelAnswer → LevelRights → LevelRights
@@ -186,12 +188,12 @@ module _ {A : Type 0} (f g : List Bool → A) (r s : LevelRights) (v : ℕ) wher
 -- c and e are the causes where stage 1 and stage 2 lack a right
 passes : (r : LevelRights) (on : Bool) (v : ℕ) (t : Stage2Pass) (g : Fault) (c e : Right → ℕ) (l : Level)
     → level
-    (follow (follow (fault_unless r.read 1 Permission (c Read)) (slot_answer on v Read)) (stage2_as t g (e Read) l Read))
-    (follow (follow (fault_unless r.write 1 Permission (c Write)) (slot_answer on v Write)) (stage2_as t g (e Write) l Write))
-    (follow (follow (fault_unless r.execute 1 Permission (c Execute)) (slot_answer on v Execute)) (stage2_as t g (e Execute) l Execute))
+    (follow (follow (fault_unless r.read One Permission (c Read)) (slot_answer on v Read)) (stage2_as t g (e Read) l Read))
+    (follow (follow (fault_unless r.write One Permission (c Write)) (slot_answer on v Write)) (stage2_as t g (e Write) l Write))
+    (follow (follow (fault_unless r.execute One Permission (c Execute)) (slot_answer on v Execute)) (stage2_as t g (e Execute) l Execute))
     ≡ (pass_level r on v t l, none)
 passes r on v (Stage2Pass.Granted k) g c e l =
-    by-slot (accesses c (λ x b. fault_unless b 2 Permission (e x))) (passed (λ a b. Ok (both a b))) r (level_in k l) v on (leb 8 v) (λ t. refl) refl refl
+    by-slot (accesses c (λ x b. fault_unless b Two Permission (e x))) (passed (λ a b. Ok (both a b))) r (level_in k l) v on (leb 8 v) (λ t. refl) refl refl
 passes r on v Stage2Pass.Nothing g c e l =
     each (values r (on ∷ leb 8 v ∷ slot v [])) (accesses c (λ x b. (Err (Faulted g)))) (passed (λ a b. Ok none)) refl
 passes r on v (Stage2Pass.Refused n) g c e l =
@@ -225,7 +227,7 @@ both-agree s d e t l =
       stage2-as s.control.stage2 e l Execute,
     )
     (with-stage1 s.control.overlay (stage1_pass s d t) (slot_at (of_level s.por l) d.poindex) (stage2_pass s.control.stage2 e)
-    (first_fault 1 11 12 d.valid) (first_fault 2 13 14 e.valid) (λ r. base_cause s d t (access_of l r)) (λ r. stage2_cause e (access_of l r)) l)
+    (first_fault One 11 12 d.valid) (first_fault Two 13 14 e.valid) (λ r. base_cause s d t (access_of l r)) (λ r. stage2_cause e (access_of l r)) l)
 
 -- the rights of a level are those of the pass
 pub agree : (s : Setup) (d : Stage1) (e : Stage2) (t : Limits) (l : Level) → level_of s d e t l ≡ pass s d e t l

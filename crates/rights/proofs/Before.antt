@@ -45,12 +45,14 @@ use Rattle.records.specs.declared.refusal.Refusal.TheVariants.{ReservedCode, Unj
 use Rattle.rights.specs.declared.answers.Stop.TheVariants.{Faulted, Refused}
 use Rattle.records.specs.Values.{Check}
 use Rattle.rights.specs.Answers.{Answer}
+use Rattle.rights.specs.declared.answers.Stage.TheVariants.{One, Two}
+use Rattle.rights.specs.declared.answers.Stage.{Stage}
 
 -- Answers, as before
-abbrev fault_unless : Bool → ℕ → Kind → Answer
+abbrev fault_unless : Bool → Stage → Kind → Answer
 fault_unless ok s k = cond ok (Ok tt) (fault_of s k 0)
 
-abbrev descriptor_answer : ℕ → Bool → Bool → Bool → Answer
+abbrev descriptor_answer : Stage → Bool → Bool → Bool → Answer
 descriptor_answer s valid af dirty = follow (fault_unless valid s Translation) (follow (fault_unless af s AccessFlag) (refuse_if dirty Unjudged))
 
 -- Direct, as before
@@ -92,7 +94,7 @@ direct_of c d t = cond c.two (direct_two c d t) (direct_one c d t)
 
 -- Stage 1, as before
 abbrev slot_answer : Bool → ℕ → Right → Answer
-slot_answer on v r = cond on (follow (refuse_if (leb 8 v) ReservedCode) (fault_unless (has_right (slot_rights v) r) 1 Overlay)) (Ok tt)
+slot_answer on v r = cond on (follow (refuse_if (leb 8 v) ReservedCode) (fault_unless (has_right (slot_rights v) r) One Overlay)) (Ok tt)
 
 abbrev overlay_answer : Setup → Stage1 → PerLevel Bool → Access → Answer
 overlay_answer s d applies a =
@@ -107,18 +109,18 @@ abbrev base_answer : Setup → Stage1 → Limits → Access → Answer
 base_answer s d t a =
     follow (refuse_if (reserved_base s d) ReservedCode)
     (follow (refuse_if (unjudged_base s d) Unjudged)
-    (follow (fault_unless (has (base_rights s d t) a) 1 Permission)
+    (follow (fault_unless (has (base_rights s d t) a) One Permission)
     (overlay_answer s d (overlays_apply s d) a)))
 
 abbrev stage1_answer : Setup → Stage1 → Limits → Access → Answer
-stage1_answer s d t a = follow (descriptor_answer 1 d.valid d.af (dirty s.control d)) (base_answer s d t a)
+stage1_answer s d t a = follow (descriptor_answer One d.valid d.af (dirty s.control d)) (base_answer s d t a)
 
 -- Stage 2, as before
 abbrev stage2_rights : Stage2 → Rights
 stage2_rights e = six e.read e.write (xn_px e.xn) e.read e.write (xn_ux e.xn)
 
 abbrev stage2_answer : Stage2 → Access → Answer
-stage2_answer e a = follow (descriptor_answer 2 e.valid e.af e.bit51) (fault_unless (has (stage2_rights e) a) 2 Permission)
+stage2_answer e a = follow (descriptor_answer Two e.valid e.af e.bit51) (fault_unless (has (stage2_rights e) a) Two Permission)
 
 -- The order, as before
 abbrev pub stages_answer : Setup → Stage1 → Stage2 → Limits → Access → Answer
@@ -160,7 +162,7 @@ unfolding uncaused
 either true x y p q = p
 either false x y p q = q
 
-fault : (b : Bool) (s : ℕ) (k : Kind) (c : ℕ) → uncaused (today.fault_unless b s k c) ≡ fault_unless b s k
+fault : (b : Bool) (s : Stage) (k : Kind) (c : ℕ) → uncaused (today.fault_unless b s k c) ≡ fault_unless b s k
 unfolding uncaused
 fault true s k c = refl
 fault false s k c = refl
@@ -175,7 +177,7 @@ unfolding uncaused
 checks (Ok u) = refl
 checks (Err n) = refl
 
-descriptor : (s t a : ℕ) (v f d : Bool) → uncaused (today.descriptor_answer s t a v f d) ≡ descriptor_answer s v f d
+descriptor : (s : Stage) (t a : ℕ) (v f d : Bool) → uncaused (today.descriptor_answer s t a v f d) ≡ descriptor_answer s v f d
 descriptor s t a v f d = then _ _ (fault v s Translation t) (then _ _ (fault f s AccessFlag a) (refuses d Unjudged))
 
 -- the rights are those of the chain of steps: computed at all values of the bits that are read
@@ -243,19 +245,19 @@ slot s d a = slot_at (of_level s.por a.level) d.poindex
 same-stage1 : (s : Setup) (d : Stage1) (t : Limits) (a : Access) → uncaused (first.stage1_answer s d t a) ≡ stage1_answer s d t a
 unfolding first.stage1_answer first.base_answer
 same-stage1 s d t a =
-    then _ _ (descriptor 1 11 12 d.valid d.af (dirty s.control d))
+    then _ _ (descriptor One 11 12 d.valid d.af (dirty s.control d))
     (then _ _ (refuses (reserved_base s d) ReservedCode)
     (then _ _ (refuses (unjudged_base s d) Unjudged)
     (then _ _
-    (fault (has (first.base_rights s d t) a) 1 Permission (first.base_cause s d t a) ∙ ap (λ (r : Rights). fault_unless (has r a) 1 Permission) (base-rights s d t))
+    (fault (has (first.base_rights s d t) a) One Permission (first.base_cause s d t a) ∙ ap (λ (r : Rights). fault_unless (has r a) One Permission) (base-rights s d t))
     (either (of_level s.control.overlay a.level && of_level (overlays_apply s d) a.level) _ _
-    (then _ _ (refuses (leb 8 (slot s d a)) ReservedCode) (fault (has_right (slot_rights (slot s d a)) a.right) 1 Overlay 8)) permits))))
+    (then _ _ (refuses (leb 8 (slot s d a)) ReservedCode) (fault (has_right (slot_rights (slot s d a)) a.right) One Overlay 8)) permits))))
 
 same-stage2 : (e : Stage2) (a : Access) → uncaused (second.stage2_answer e a) ≡ stage2_answer e a
 unfolding second.stage2_answer
 same-stage2 e a =
-    then _ _ (descriptor 2 13 14 e.valid e.af e.bit51)
-    (fault (has (second.stage2_rights e) a) 2 Permission (second.stage2_cause e a) ∙ ap (λ (r : Rights). fault_unless (has r a) 2 Permission) (stage2-rights e))
+    then _ _ (descriptor Two 13 14 e.valid e.af e.bit51)
+    (fault (has (second.stage2_rights e) a) Two Permission (second.stage2_cause e a) ∙ ap (λ (r : Rights). fault_unless (has r a) Two Permission) (stage2-rights e))
 
 -- both stages, and the whole order up to the attribute steps
 pub same-stages : (s : Setup) (d : Stage1) (e : Stage2) (t : Limits) (a : Access) → uncaused (order.stages_answer s d e t a) ≡ stages_answer s d e t a

@@ -38,45 +38,48 @@ use Rattle.records.specs.Values.{Check}
 use Rattle.rights.specs.Answers.{Answer}
 use Rattle.records.specs.declared.refusal.Refusal.{Refusal}
 use Rattle.records.specs.Values.{refusal_number}
+use Rattle.rights.specs.declared.answers.Stage.TheVariants.{One, Two}
+use Rattle.rights.specs.declared.answers.Stage.{Stage}
+use Rattle.rights.specs.Answers.{stage_number}
 
 -- the cause of a fault is one of the fourteen, and fixes its stage and kind
 abbrev pub Caused : Fault → Type 0
-Caused g = (1 ≤ g.cause) × CauseFixes g.stage (kind_number g.kind) g.cause
+Caused g = (1 ≤ g.cause) × CauseFixes (stage_number g.stage) (kind_number g.kind) g.cause
 
 -- the answers that stage s has
-pub data Named (s : ℕ) : Answer → Type 0 where
+pub data Named (s : Stage) : Answer → Type 0 where
   permits : Named s (Ok tt)
   faults : (g : Fault) → g.stage ≡ s → Caused g → Named s (Err (Faulted g))
   refuses : (n : Refusal) → (6 ≤ refusal_number n) × (refusal_number n ≤ 7) → Named s (Err (Refused n))
 
-follows : {s : ℕ} {x y : Answer} → Named s x → Named s y → Named s (follow x y)
+follows : {s : Stage} {x y : Answer} → Named s x → Named s y → Named s (follow x y)
 follows permits q = q
 follows (faults g e h) q = faults g e h
 follows (refuses n h) q = refuses n h
 
-picks : {s : ℕ} (b : Bool) {x y : Answer} → Named s x → Named s y → Named s (cond b x y)
+picks : {s : Stage} (b : Bool) {x y : Answer} → Named s x → Named s y → Named s (cond b x y)
 picks true p q = p
 picks false p q = q
 
-fault : (b : Bool) (s : ℕ) (k : Kind) (c : ℕ) → (b ≡ false → (1 ≤ c) × CauseFixes s (kind_number k) c) → Named s (fault_unless b s k c)
+fault : (b : Bool) (s : Stage) (k : Kind) (c : ℕ) → (b ≡ false → (1 ≤ c) × CauseFixes (stage_number s) (kind_number k) c) → Named s (fault_unless b s k c)
 fault true s k c h = permits
 fault false s k c h = faults _ refl (h refl)
 
 -- a right that a step takes away
-permission : {lo hi c : ℕ} {b : Bool} (s : ℕ) → ((n : ℕ) → lo ≤ n → n ≤ hi → (1 ≤ n) × CauseFixes s 3 n) → Removed lo hi b c → Named s (fault_unless b s Permission c)
+permission : {lo hi c : ℕ} {b : Bool} (s : Stage) → ((n : ℕ) → lo ≤ n → n ≤ hi → (1 ≤ n) × CauseFixes (stage_number s) 3 n) → Removed lo hi b c → Named s (fault_unless b s Permission c)
 permission s h held = permits
 permission s h (taken c (p, q)) = faults _ refl (h c p q)
 
-refusal : {s : ℕ} (b : Bool) (n : Refusal) → (6 ≤ refusal_number n) × (refusal_number n ≤ 7) → Named s (refuse_if b n)
+refusal : {s : Stage} (b : Bool) (n : Refusal) → (6 ≤ refusal_number n) × (refusal_number n ≤ 7) → Named s (refuse_if b n)
 refusal true n h = refuses n h
 refusal false n h = permits
 
-descriptor : (s t a : ℕ) (v f d : Bool) → (1 ≤ t) × CauseFixes s 1 t → (1 ≤ a) × CauseFixes s 2 a → Named s (descriptor_answer s t a v f d)
+descriptor : (s : Stage) (t a : ℕ) (v f d : Bool) → (1 ≤ t) × CauseFixes (stage_number s) 1 t → (1 ≤ a) × CauseFixes (stage_number s) 2 a → Named s (descriptor_answer s t a v f d)
 descriptor s t a v f d p q = follows (fault v s Translation t (λ e. p)) (follows (fault f s AccessFlag a (λ e. q)) (refusal d Unjudged (omega arith)))
 
-slot : (on : Bool) (v : ℕ) (r : Right) → Named 1 (slot_answer on v r)
+slot : (on : Bool) (v : ℕ) (r : Right) → Named One (slot_answer on v r)
 slot on v r =
-    picks on (follows (refusal (leb 8 v) ReservedCode (omega arith)) (fault (has_right (slot_rights v) r) 1 Overlay 8 (λ e. (omega arith, (omega arith, refl))))) permits
+    picks on (follows (refusal (leb 8 v) ReservedCode (omega arith)) (fault (has_right (slot_rights v) r) One Overlay 8 (λ e. (omega arith, (omega arith, refl))))) permits
 
 back : (n k : ℕ) → k ≤ n → n ≡ n - k + k
 back n k h = omega arith
@@ -90,32 +93,32 @@ stage2-row : (n : ℕ) → 9 ≤ n → n ≤ 10 → get_or causes n (row 0 0) �
 stage2-row n p q =
     ap (λ (k : ℕ). get_or causes k (row 0 0)) (back n 9 p) ∙ at 2 (λ (k : ℕ). get_or causes (k + 9) (row 0 0)) (λ (k : ℕ). row 2 3) refl (n - 9) (omega arith)
 
-pub stage1-named : (s : Setup) (d : Stage1) (t : Limits) (a : Access) → Named 1 (stage1_if s d t a)
+pub stage1-named : (s : Setup) (d : Stage1) (t : Limits) (a : Access) → Named One (stage1_if s d t a)
 unfolding stage1_answer base_answer
 stage1-named s d t a =
     picks s.control.stage1
-    (follows (descriptor 1 11 12 d.valid d.af (dirty s.control d) (omega arith, (omega arith, refl)) (omega arith, (omega arith, refl)))
+    (follows (descriptor One 11 12 d.valid d.af (dirty s.control d) (omega arith, (omega arith, refl)) (omega arith, (omega arith, refl)))
     (follows (refusal (reserved_base s d) ReservedCode (omega arith))
     (follows (refusal (unjudged_base s d) Unjudged (omega arith))
-    (follows (permission 1 (λ n p q. (p, (omega arith, stage1-row n p q))) (base-removed s d t a))
+    (follows (permission One (λ n p q. (p, (omega arith, stage1-row n p q))) (base-removed s d t a))
     (slot (of_level s.control.overlay a.level && of_level (overlays_apply s d) a.level) (slot_at (of_level s.por a.level) d.poindex) a.right)))))
     permits
 
-pub stage2-named : (s : Setup) (e : Stage2) (a : Access) → Named 2 (stage2_if s e a)
+pub stage2-named : (s : Setup) (e : Stage2) (a : Access) → Named Two (stage2_if s e a)
 unfolding stage2_answer
 stage2-named s e a =
     picks s.control.stage2
-    (follows (descriptor 2 13 14 e.valid e.af e.bit51 (omega arith, (omega arith, refl)) (omega arith, (omega arith, refl)))
-    (permission 2 (λ n p q. (omega arith, (omega arith, stage2-row n p q))) (stage2-removed e a)))
+    (follows (descriptor Two 13 14 e.valid e.af e.bit51 (omega arith, (omega arith, refl)) (omega arith, (omega arith, refl)))
+    (permission Two (λ n p q. (omega arith, (omega arith, stage2-row n p q))) (stage2-removed e a)))
     permits
 
 -- the cause of an answer, 0 where there is no fault, fixes its stage and kind, 0 there too
 abbrev pub Fixed : Answer → Type 0
 Fixed (Ok u) = CauseFixes 0 0 0
-Fixed (Err (Faulted g)) = CauseFixes g.stage (kind_number g.kind) g.cause
+Fixed (Err (Faulted g)) = CauseFixes (stage_number g.stage) (kind_number g.kind) g.cause
 Fixed (Err (Refused n)) = CauseFixes 0 0 0
 
-pub cause-fixes : {s : ℕ} {x : Answer} → Named s x → Fixed x
+pub cause-fixes : {s : Stage} {x : Answer} → Named s x → Fixed x
 cause-fixes permits = (omega arith, refl)
 cause-fixes (faults g e h) = h.1
 cause-fixes (refuses n h) = (omega arith, refl)

@@ -23,6 +23,7 @@ use Rattle.records.specs.Values.{Check}
 use Rattle.rights.specs.Answers.{Answer}
 use Rattle.records.specs.declared.refusal.Refusal.{Refusal}
 use Rattle.records.specs.Values.{refusal_number}
+use Rattle.rights.specs.declared.answers.Stage.TheVariants.{One, Two}
 
 -- the refusal of a level's answer, and of a range
 abbrev refusal_at : LevelAnswer → Check
@@ -76,7 +77,7 @@ module _ (s : Setup) (l : Level) (f : Leaf) where
       go (stage1_if (put s l all_open) (stage1_of f.stage1) (limits_of f.limits) (access_of l x)) (stage1-named (put s l all_open) _ _ _) (stage2_if (put s l all_open) (stage2_of f.stage2) (access_of l x)) (stage2-named (put s l all_open) _ _)
       (sym (stages-as (put s l all_open) (stage1_of f.stage1) (stage2_of f.stage2) (limits_of f.limits) (access_of l x) _ refl) ∙ e)
     where
-      go : (a : Answer) → Named 1 a → (b : Answer) → Named 2 b → follow a b ≡ (Err (Refused n)) → (6 ≤ refusal_number n) × (refusal_number n ≤ 7)
+      go : (a : Answer) → Named One a → (b : Answer) → Named Two b → follow a b ≡ (Err (Refused n)) → (6 ≤ refusal_number n) × (refusal_number n ≤ 7)
       go _ permits _ permits q = clash (cc)
       go _ permits _ (faults g p h) q = clash (cc)
       go _ permits _ (refuses m h) q = let g : m ≡ n = cc in rw (← g) h

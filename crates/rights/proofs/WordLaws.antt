@@ -41,6 +41,8 @@ use Rattle.std.specs.Prelude.{Ok, Err}
 use Rattle.records.specs.declared.refusal.Refusal.TheVariants.{ReservedCode, Unjudged}
 use Rattle.rights.specs.declared.answers.Stop.TheVariants.{Faulted, Refused}
 use Rattle.rights.specs.Answers.{Answer}
+use Rattle.rights.specs.declared.answers.Stage.TheVariants.{One, Two}
+use Rattle.rights.specs.declared.answers.Stage.{Stage}
 
 -- a rule over truth values at every access, computed
 abbrev trees : {A : Type 0} → ℕ → (Level → Right → List Bool → A) → List (Tree A)
@@ -68,13 +70,13 @@ follow-follow (Err (Faulted g)) b c = refl
 follow-follow (Err (Refused n)) b c = refl
 
 -- a step that faults unless k, before what follows
-fault-step : (k : Bool) (s : ℕ) (κ : Kind) (n : ℕ) (y : Answer) (r p : Bool) (c : ℕ) → Agrees y r p c
+fault-step : (k : Bool) (s : Stage) (κ : Kind) (n : ℕ) (y : Answer) (r p : Bool) (c : ℕ) → Agrees y r p c
     → Agrees (follow (fault_unless k s κ n) y) (k && r) (k && p) (cond k c n)
 fault-step true s κ n y r p c h = h
 fault-step false s κ n y r p c h = (refl, refl, refl)
 
 -- valid, AF and dirty state
-state-step : (s t f : ℕ) (v a d : Bool) (y : Answer) (r p : Bool) (c : ℕ) → Agrees y r p c
+state-step : (s : Stage) (t f : ℕ) (v a d : Bool) (y : Answer) (r p : Bool) (c : ℕ) → Agrees y r p c
     → Agrees (follow (descriptor_answer s t f v a d) y) (((v && a) && d) || ((v && a) && r)) ((v && a) && p) (cond (v && a) c (cond v f t))
 state-step s t f false a d y r p c h = (refl, refl, refl)
 state-step s t f true false d y r p c h = (refl, refl, refl)
@@ -90,34 +92,34 @@ slot_step false v Write y r p c h = h
 slot_step false v Execute y r p c h = h
 slot_step true v x y r p c h = go (leb 8 v) (has_right (slot_rights v) x)
   where
-    go : (b g : Bool) → Agrees (follow (follow (refuse_if b ReservedCode) (fault_unless g 1 Overlay 8)) y) (b || ((not b && g) && r)) ((not b && g) && p) (cond (not b && g) c 8)
+    go : (b g : Bool) → Agrees (follow (follow (refuse_if b ReservedCode) (fault_unless g One Overlay 8)) y) (b || ((not b && g) && r)) ((not b && g) && p) (cond (not b && g) c 8)
     go true g = refl
     go false true = h
     go false false = (refl, refl, refl)
 
 -- base codes and what they refuse, where `bad` is that one of two refusals is met
 codes-step : (x y bad k : Bool) (n : ℕ) (z : Answer) (r p : Bool) (c : ℕ) → (x || y) ≡ bad → Agrees z r p c
-    → Agrees (follow (refuse_if x ReservedCode) (follow (refuse_if y Unjudged) (follow (fault_unless k 1 Permission n) z))) (bad || (k && r)) (k && p) (cond k c n)
+    → Agrees (follow (refuse_if x ReservedCode) (follow (refuse_if y Unjudged) (follow (fault_unless k One Permission n) z))) (bad || (k && r)) (k && p) (cond k c n)
 codes-step true y bad k n z r p c e h = rw (← e)
 codes-step false true bad k n z r p c e h = rw (← e)
-codes-step false false bad k n z r p c e h = rw (← e) (fault-step k 1 Permission n z r p c h)
+codes-step false false bad k n z r p c e h = rw (← e) (fault-step k One Permission n z r p c h)
 
 -- stage 2
 abbrev stage2_by : Bool → Bool → Bool → Bool → List Step
 stage2_by r w px ux = fixed 9 (six r w true r w true) ∷ fixed 10 (six true true px true true ux) ∷ []
 
 stage2-fault : (l : Level) (x : Right) (r w px ux : Bool)
-    → fault_unless (has (left_after everything (stage2_by r w px ux)) (access_of l x)) 2 Permission (first_remover (access_of l x) everything (stage2_by r w px ux))
-    ≡ fault_unless (has (six r w px r w ux) (access_of l x)) 2 Permission (cond (executes x) 10 9)
+    → fault_unless (has (left_after everything (stage2_by r w px ux)) (access_of l x)) Two Permission (first_remover (access_of l x) everything (stage2_by r w px ux))
+    ≡ fault_unless (has (six r w px r w ux) (access_of l x)) Two Permission (cond (executes x) 10 9)
 stage2-fault l x r w px ux = at-access (r ∷ w ∷ px ∷ ux ∷ []) f g refl l x
   where
     f : Level → Right → List Bool → Answer
     f l x m = let s = stage2_by (get_or m 0 false) (get_or m 1 false) (get_or m 2 false) (get_or m 3 false) in
-        fault_unless (has (left_after everything s) (access_of l x)) 2 Permission (first_remover (access_of l x) everything s)
+        fault_unless (has (left_after everything s) (access_of l x)) Two Permission (first_remover (access_of l x) everything s)
 
     g : Level → Right → List Bool → Answer
     g l x m =
-        fault_unless (has (six (get_or m 0 false) (get_or m 1 false) (get_or m 2 false) (get_or m 0 false) (get_or m 1 false) (get_or m 3 false)) (access_of l x)) 2 Permission (cond (executes x) 10 9)
+        fault_unless (has (six (get_or m 0 false) (get_or m 1 false) (get_or m 2 false) (get_or m 0 false) (get_or m 1 false) (get_or m 3 false)) (access_of l x)) Two Permission (cond (executes x) 10 9)
 
 stage2-agrees : (on : Bool) (e : Stage2) (l : Level) (x : Right) → let w = stage2_word on e in let a = access_of l x in
     Agrees (cond on (stage2_answer e a) (Ok tt)) (w.meets a) (w.right a) (w.cause a)
@@ -125,9 +127,9 @@ unfolding stage2_answer stage2_rights stage2_cause
 stage2-agrees false e l x = (refl, refl, refl)
 stage2-agrees true e l x =
     rw (stage2-fault l x e.read e.write (xn_px e.xn) (xn_ux e.xn))
-    (state-step 2 13 14 e.valid e.af e.bit51 _ _ _ _ (last (has (six e.read e.write (xn_px e.xn) e.read e.write (xn_ux e.xn)) (access_of l x)) (cond (executes x) 10 9)))
+    (state-step Two 13 14 e.valid e.af e.bit51 _ _ _ _ (last (has (six e.read e.write (xn_px e.xn) e.read e.write (xn_ux e.xn)) (access_of l x)) (cond (executes x) 10 9)))
   where
-    last : (k : Bool) (n : ℕ) → Agrees (fault_unless k 2 Permission n) (false || (k && false)) (k && true) (cond k 0 n)
+    last : (k : Bool) (n : ℕ) → Agrees (fault_unless k Two Permission n) (false || (k && false)) (k && true) (cond k 0 n)
     last true n = (refl, refl, refl)
     last false n = (refl, refl, refl)
 
@@ -304,7 +306,7 @@ module _ (s : Setup) (d : Stage1) (t : Limits) (l : Level) (x : Right) (y : Answ
 
   -- Direct, where the overlay applies at both levels
   direct-agrees : let z = direct_word s.control.wxn s.control.pan (descriptor_of s.control d) (limits_part_of s.control t) (slots_word s d true true w) in
-      Agrees (follow (follow (fault_unless (has (left_after everything (direct_steps s.control d t)) a) 1 Permission (first_remover a everything (direct_steps s.control d t)))
+      Agrees (follow (follow (fault_unless (has (left_after everything (direct_steps s.control d t)) a) One Permission (first_remover a everything (direct_steps s.control d t)))
       (overlay_answer s d both a)) y) (z.meets a) (z.right a) (z.cause a)
   direct-agrees =
       let o = slots_word s d true true w in
@@ -316,9 +318,9 @@ module _ (s : Setup) (d : Stage1) (t : Limits) (l : Level) (x : Right) (y : Answ
       let kept : (m : Bool) → (k && m) ≡ (first.keeps a && (second.keeps a && (last.keeps a && m))) =
       λ (m : Bool). ap (λ (q : Bool × ℕ). q.0 && m) e ∙ three-keep (first.keeps a) (second.keeps a) (last.keeps a) m in
       let n = first_remover a everything (direct_steps s.control d t) in
-      rw (follow-follow (fault_unless k 1 Permission n) (overlay_answer s d both a) y)
-      (same-lane (follow (fault_unless k 1 Permission n) (follow (overlay_answer s d both a) y)) _ _ _ _ _ _ (kept (o.meets a)) (kept (o.right a)) (ap (λ (q : Bool × ℕ). q.1) e)
-      (fault-step k 1 Permission n (follow (overlay_answer s d both a) y) (o.meets a) (o.right a) (o.cause a)
+      rw (follow-follow (fault_unless k One Permission n) (overlay_answer s d both a) y)
+      (same-lane (follow (fault_unless k One Permission n) (follow (overlay_answer s d both a) y)) _ _ _ _ _ _ (kept (o.meets a)) (kept (o.right a)) (ap (λ (q : Bool × ℕ). q.1) e)
+      (fault-step k One Permission n (follow (overlay_answer s d both a) y) (o.meets a) (o.right a) (o.cause a)
       (slots-agrees s d true true w y l x h)))
 
   module _ (whole-codes : (j : ℕ) → w.codes j ≡ true) where
@@ -397,7 +399,7 @@ module _ (s : Setup) (d : Stage1) (t : Limits) (l : Level) (x : Right) (y : Answ
 
     indirect-agrees : (two : Bool) → let z = codes_of two in
         Agrees (follow (follow (refuse_if (reserved_code two pair) ReservedCode) (follow (refuse_if (unjudged_code two pair) Unjudged)
-        (follow (fault_unless (has (left_after everything (grants_by two)) a) 1 Permission (first_remover a everything (grants_by two))) (overlay_answer s d (code_overlays pair) a)))) y)
+        (follow (fault_unless (has (left_after everything (grants_by two)) a) One Permission (first_remover a everything (grants_by two))) (overlay_answer s d (code_overlays pair) a)))) y)
         (refuses_in z a) (z.right a) (z.cause a)
     indirect-agrees two =
         let v = overlay_answer s d (code_overlays pair) a in
@@ -410,11 +412,11 @@ module _ (s : Setup) (d : Stage1) (t : Limits) (l : Level) (x : Right) (y : Answ
         rw (code-overlay (code_at s.pir.privileged d.piindex), code-overlay (code_at s.pir.unprivileged d.piindex), low s.pir.privileged, low s.pir.unprivileged)
         (slots-agrees s d (ltb (code_at s.pir.privileged d.piindex) 8) (ltb (code_at s.pir.unprivileged d.piindex) 8) w y l x h) in
         rw (
-          follow-follow (refuse_if (reserved_code two pair) ReservedCode) (follow (refuse_if (unjudged_code two pair) Unjudged) (follow (fault_unless g 1 Permission n) v)) y,
-          follow-follow (refuse_if (unjudged_code two pair) Unjudged) (follow (fault_unless g 1 Permission n) v) y,
-          follow-follow (fault_unless g 1 Permission n) v y,
+          follow-follow (refuse_if (reserved_code two pair) ReservedCode) (follow (refuse_if (unjudged_code two pair) Unjudged) (follow (fault_unless g One Permission n) v)) y,
+          follow-follow (refuse_if (unjudged_code two pair) Unjudged) (follow (fault_unless g One Permission n) v) y,
+          follow-follow (fault_unless g One Permission n) v y,
         )
-        (same-lane (follow (refuse_if (reserved_code two pair) ReservedCode) (follow (refuse_if (unjudged_code two pair) Unjudged) (follow (fault_unless g 1 Permission n) (follow v y)))) _ _ _ _ _ _
+        (same-lane (follow (refuse_if (reserved_code two pair) ReservedCode) (follow (refuse_if (unjudged_code two pair) Unjudged) (follow (fault_unless g One Permission n) (follow v y)))) _ _ _ _ _ _
         (ap (λ (m : Bool). refused_codes (codes_of two) || m) (kept (o.meets a))) (kept (o.right a)) (one-cause g ((code_part Privileged cp).keeps a) ((code_part Unprivileged (counts two)).keeps a) (o.cause a) n (kept_by two) refl)
         (codes-step (reserved_code two pair) (unjudged_code two pair) (refused_codes (codes_of two)) g n (follow v y) (o.meets a) (o.right a) (o.cause a) (refused-by two) overlaid))
       where
@@ -440,7 +442,7 @@ module _ (s : Setup) (d : Stage1) (t : Limits) (l : Level) (x : Right) (y : Answ
 
         go : (i : Bool)
             → Agrees (follow (follow (refuse_if (i && reserved_code s.control.two pair) ReservedCode) (follow (refuse_if (i && unjudged_code s.control.two pair) Unjudged)
-            (follow (fault_unless (has (left_after everything (steps i)) a) 1 Permission (first_remover a everything (steps i))) (overlay_answer s d (cond i (code_overlays pair) both) a)))) y)
+            (follow (fault_unless (has (left_after everything (steps i)) a) One Permission (first_remover a everything (steps i))) (overlay_answer s d (cond i (code_overlays pair) both) a)))) y)
             (refuses_in (cond i indirect direct) a) ((cond i indirect direct).right a) ((cond i indirect direct).cause a)
         go true = rw (low s.pir.privileged) (indirect-agrees s.control.two)
         go false = direct-agrees
@@ -473,16 +475,16 @@ word-law s d e t l x = go s.control.stage1
     first = joined (state_part 11 12 false d.valid d.af (dirty s.control d)) z
 
     answer : Answer
-    answer = follow (descriptor_answer 1 11 12 d.valid d.af (dirty s.control d)) (base_answer s d t (access_of l x))
+    answer = follow (descriptor_answer One 11 12 d.valid d.af (dirty s.control d)) (base_answer s d t (access_of l x))
 
     go : (on : Bool) → let w = cond on first (joined off_part second) in let a = access_of l x in
         Agrees (follow (cond on answer (Ok tt)) (stage2_if s e a)) (refuses_in w a) (w.right a) (w.cause a)
     go false = stage2-agrees s.control.stage2 e l x
     go true =
-        rw (follow-follow (descriptor_answer 1 11 12 d.valid d.af (dirty s.control d)) (base_answer s d t (access_of l x)) (stage2_if s e (access_of l x)))
-        (same-lane (follow (descriptor_answer 1 11 12 d.valid d.af (dirty s.control d)) (follow (base_answer s d t (access_of l x)) (stage2_if s e (access_of l x)))) _ _ _ _ _ _
+        rw (follow-follow (descriptor_answer One 11 12 d.valid d.af (dirty s.control d)) (base_answer s d t (access_of l x)) (stage2_if s e (access_of l x)))
+        (same-lane (follow (descriptor_answer One 11 12 d.valid d.af (dirty s.control d)) (follow (base_answer s d t (access_of l x)) (stage2_if s e (access_of l x)))) _ _ _ _ _ _
         (state-refuses (d.valid && d.af) (dirty s.control d) (z.codes 0) (z.codes 1) (z.codes 2) (z.meets (access_of l x))) refl refl
-        (state-step 1 11 12 d.valid d.af (dirty s.control d) (follow (base_answer s d t (access_of l x)) (stage2_if s e (access_of l x)))
+        (state-step One 11 12 d.valid d.af (dirty s.control d) (follow (base_answer s d t (access_of l x)) (stage2_if s e (access_of l x)))
         (refuses_in z (access_of l x)) (z.right (access_of l x)) (z.cause (access_of l x))
         (base_agrees s d t l x (stage2_if s e (access_of l x)) second (stage2-agrees s.control.stage2 e l x) (stage2-codes s.control.stage2 e))))
 

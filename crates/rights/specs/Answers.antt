@@ -7,6 +7,13 @@ use Rattle.rights.specs.declared.answers.Stop.TheVariants.{Faulted, Refused}
 use Rattle.records.specs.Values.{Check}
 use Rattle.rights.specs.declared.answers.Stop.{Stop}
 use Rattle.records.specs.declared.refusal.Refusal.{Refusal}
+use Rattle.rights.specs.declared.answers.Stage.TheVariants.{One, Two}
+use Rattle.rights.specs.declared.answers.Stage.{Stage}
+
+-- the stages by number
+abbrev pub stage_number : Stage → ℕ
+stage_number One = 1
+stage_number Two = 2
 
 -- the kinds of fault, in the paper's order from 1 on
 abbrev pub kind_number : Kind → ℕ
@@ -26,10 +33,10 @@ follow (Err (Faulted f)) b = Err (Faulted f)
 follow (Err (Refused n)) b = Err (Refused n)
 
 -- a fault carries its stage, kind and cause
-abbrev pub fault_of : ℕ → Kind → ℕ → Answer
+abbrev pub fault_of : Stage → Kind → ℕ → Answer
 fault_of s k c = Err (Faulted (record { stage = s; kind = k; cause = c }))
 
-abbrev pub fault_unless : Bool → ℕ → Kind → ℕ → Answer
+abbrev pub fault_unless : Bool → Stage → Kind → ℕ → Answer
 fault_unless ok s k c = cond ok (Ok tt) (fault_of s k c)
 
 abbrev pub refuse_if : Bool → Refusal → Answer
@@ -65,6 +72,6 @@ cause_of (Err (Refused n)) = 0
 
 -- the first steps of a stage: Translation fault (valid clear), Access flag fault (AF clear), 7 for dirty state. The causes of the two faults are the
 -- stage's own: t and f
-abbrev pub descriptor_answer : ℕ → ℕ → ℕ → Bool → Bool → Bool → Answer
+abbrev pub descriptor_answer : Stage → ℕ → ℕ → Bool → Bool → Bool → Answer
 descriptor_answer s t f valid af dirty =
     follow (fault_unless valid s Translation t) (follow (fault_unless af s AccessFlag f) (refuse_if dirty Unjudged))

@@ -14,6 +14,7 @@ use Rattle.rights.specs.Answers.{follow, fault_unless, refuse_if}
 use Rattle.rights.specs.declared.answers.Kind.TheVariants.{Overlay}
 use Rattle.records.specs.declared.refusal.Refusal.TheVariants.{ReservedCode}
 use Rattle.rights.specs.Answers.{Answer}
+use Rattle.rights.specs.declared.answers.Stage.TheVariants.{One}
 
 -- a slot: bit 0 R, bit 1 X, bit 2 W
 abbrev pub slot_rights : ℕ → LevelRights
@@ -21,7 +22,7 @@ slot_rights v = three (bit v 0) (bit v 2) (bit v 1)
 
 -- where overlays are on and apply: slots 8 to 15 are reserved, 6; a right that the slot lacks is an Overlay fault, cause 8
 abbrev pub slot_answer : Bool → ℕ → Right → Answer
-slot_answer on v r = cond on (follow (refuse_if (leb 8 v) ReservedCode) (fault_unless (has_right (slot_rights v) r) 1 Overlay 8)) (Ok tt)
+slot_answer on v r = cond on (follow (refuse_if (leb 8 v) ReservedCode) (fault_unless (has_right (slot_rights v) r) One Overlay 8)) (Ok tt)
 
 -- the overlay: on for the access's level, and applying to the base rights of that level; the slot at POIndex in that level's POR
 abbrev pub overlay_answer : Setup → Stage1 → PerLevel Bool → Access → Answer

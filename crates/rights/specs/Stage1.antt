@@ -16,6 +16,7 @@ use Rattle.rights.specs.Steps.{Step, fixed, everything, left_after, first_remove
 use Rattle.rights.specs.declared.answers.Kind.TheVariants.{Permission}
 use Rattle.records.specs.declared.refusal.Refusal.TheVariants.{ReservedCode, Unjudged}
 use Rattle.rights.specs.Answers.{Answer}
+use Rattle.rights.specs.declared.answers.Stage.TheVariants.{One}
 
 -- dirty state at stage 1: bit 51 set under Direct, bit 7 under Indirect
 abbrev pub dirty : Control → Stage1 → Bool
@@ -50,9 +51,9 @@ unfoldable pub base_answer : Setup → Stage1 → Limits → Access → Answer
 base_answer s d t a =
     follow (refuse_if (reserved_base s d) ReservedCode)
     (follow (refuse_if (unjudged_base s d) Unjudged)
-    (follow (fault_unless (has (base_rights s d t) a) 1 Permission (base_cause s d t a))
+    (follow (fault_unless (has (base_rights s d t) a) One Permission (base_cause s d t a))
     (overlay_answer s d (overlays_apply s d) a)))
 
 -- Translation fault (cause 11), Access flag fault (12), 7 for dirty state, then the base codes and what follows
 unfoldable pub stage1_answer : Setup → Stage1 → Limits → Access → Answer
-stage1_answer s d t a = follow (descriptor_answer 1 11 12 d.valid d.af (dirty s.control d)) (base_answer s d t a)
+stage1_answer s d t a = follow (descriptor_answer One 11 12 d.valid d.af (dirty s.control d)) (base_answer s d t a)

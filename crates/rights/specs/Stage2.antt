@@ -8,6 +8,7 @@ use Rattle.rights.specs.Answers.{follow, fault_unless, descriptor_answer}
 use Rattle.rights.specs.Steps.{Step, fixed, everything, left_after, first_remover}
 use Rattle.rights.specs.declared.answers.Kind.TheVariants.{Permission}
 use Rattle.rights.specs.Answers.{Answer}
+use Rattle.rights.specs.declared.answers.Stage.TheVariants.{Two}
 
 -- XN 00: px ux; 01: ux; 10: neither; 11: px
 unfoldable pub xn_px : ℕ → Bool
@@ -38,4 +39,4 @@ stage2_cause e a = first_remover a everything (stage2_steps e)
 -- Translation fault (cause 13), Access flag fault (14), 7 for dirty state (bit 51 set), Permission fault, with the first remover as its cause
 unfoldable pub stage2_answer : Stage2 → Access → Answer
 stage2_answer e a =
-    follow (descriptor_answer 2 13 14 e.valid e.af e.bit51) (fault_unless (has (stage2_rights e) a) 2 Permission (stage2_cause e a))
+    follow (descriptor_answer Two 13 14 e.valid e.af e.bit51) (fault_unless (has (stage2_rights e) a) Two Permission (stage2_cause e a))

@@ -1,9 +1,34 @@
 // Answers of the rights layer (document 01, 'Numbers for no'), and the first steps of both stages. No public function has a `requires`.
 ghost use Rattle.std.specs.Prelude.{◌≡◌, Err};
-ghost use Rattle.rights.specs.Answers.{fault_unless, descriptor_answer};
+ghost use Rattle.rights.specs.Answers.{stage_number, fault_unless, descriptor_answer};
 ghost use Rattle.rights.specs.declared.answers.Stop.TheVariants.{Refused};
 
 use records::refusal::{Refusal, check_if};
+use std::fmt;
+
+#[derive(Clone, Copy, PartialEq, Eq, Debug)]
+pub enum Stage {
+    One,
+    Two,
+}
+
+impl Stage {
+    pub fn number(self) -> u8
+        ensures { result ≡ stage_number self }
+    {
+        match self {
+            Stage::One => 1,
+            Stage::Two => 2,
+        }
+    }
+}
+
+// The number.
+impl fmt::Display for Stage {
+    fn fmt<W: fmt::Write>(&self, f: &mut fmt::Formatter<W>) -> fmt::Result {
+        write!(f, "{}", self.number())
+    }
+}
 
 #[derive(Clone, Copy, PartialEq, Eq, Debug)]
 pub enum Kind {
@@ -15,7 +40,7 @@ pub enum Kind {
 
 #[derive(Clone, Copy, PartialEq, Eq, Debug)]
 pub struct Fault {
-    pub stage: u8,
+    pub stage: Stage,
     pub kind: Kind,
     // What took the right away, by request A1's number: 1 to 14.
     pub cause: u8,
@@ -37,7 +62,7 @@ impl From<Refusal> for Stop {
 }
 
 // Every fault is made here.
-pub(crate) fn fault_unless(ok: bool, stage: u8, kind: Kind, cause: u8) -> Result<(), Stop>
+pub(crate) fn fault_unless(ok: bool, stage: Stage, kind: Kind, cause: u8) -> Result<(), Stop>
     ensures { result ≡ fault_unless ok stage kind cause }
 {
     if ok {
@@ -48,7 +73,7 @@ pub(crate) fn fault_unless(ok: bool, stage: u8, kind: Kind, cause: u8) -> Result
 
 // The first steps of a stage, with the causes of its Translation fault and its Access flag fault.
 pub(crate) fn descriptor_answer(
-    stage: u8,
+    stage: Stage,
     translation: u8,
     flag: u8,
     valid: bool,

@@ -2,7 +2,7 @@
 ghost use Rattle.std.specs.Prelude.{◌≡◌};
 ghost use Rattle.rights.specs.Overlay.{slot_rights, slot_answer, overlay_answer};
 
-use crate::answers::{Kind, Stop, fault_unless};
+use crate::answers::{Kind, Stage, Stop, fault_unless};
 use records::access::{Access, LevelRights, Right, has_right};
 use records::descriptor::Stage1;
 use records::refusal::{Refusal, check_if};
@@ -25,7 +25,7 @@ fn slot_answer(on: bool, v: u8, r: Right) -> Result<(), Stop>
 {
     if on {
         check_if(8 <= v, Refusal::ReservedCode)?;
-        return fault_unless(has_right(slot_rights(v), r), 1, Kind::Overlay, 8);
+        return fault_unless(has_right(slot_rights(v), r), Stage::One, Kind::Overlay, 8);
     }
     Ok(())
 }

@@ -2,7 +2,7 @@
 ghost use Rattle.std.specs.Prelude.{◌≡◌};
 ghost use Rattle.rights.specs.Stage1.{dirty, reserved_base, unjudged_base, base_cause, overlays_apply, base_answer, stage1_answer};
 
-use crate::answers::{Kind, Stop, descriptor_answer, fault_unless};
+use crate::answers::{Kind, Stage, Stop, descriptor_answer, fault_unless};
 use crate::indirect::codes_at;
 use crate::overlay::overlay_answer;
 use records::access::Access;
@@ -75,7 +75,7 @@ fn base_answer(s: Setup, d: Stage1, t: Limits, a: Access) -> Result<(), Stop>
     check_if(reserved_base(s, d), Refusal::ReservedCode)?;
     check_if(unjudged_base(s, d), Refusal::Unjudged)?;
     let cause = base_cause(s, d, t, a);
-    fault_unless(cause == 0, 1, Kind::Permission, cause)?;
+    fault_unless(cause == 0, Stage::One, Kind::Permission, cause)?;
     overlay_answer(s, d, overlays_apply(s, d), a)
 }
 
@@ -85,6 +85,6 @@ pub(crate) fn stage1_answer(s: Setup, d: Stage1, t: Limits, a: Access) -> Result
     ensures { result ≡ stage1_answer s d t a }
 {
     let c = s.control;
-    descriptor_answer(1, 11, 12, d.valid, d.af, dirty_state(c, d))?;
+    descriptor_answer(Stage::One, 11, 12, d.valid, d.af, dirty_state(c, d))?;
     base_answer(s, d, t, a)
 }

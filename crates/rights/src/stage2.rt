@@ -3,7 +3,7 @@ ghost use Rattle.std.specs.Prelude.{◌≡◌};
 ghost use Rattle.rights.specs.Steps.{meet};
 ghost use Rattle.rights.specs.Stage2.{s2ap, xn, stage2_cause, stage2_answer};
 
-use crate::answers::{Kind, Stop, descriptor_answer, fault_unless};
+use crate::answers::{Kind, Stage, Stop, descriptor_answer, fault_unless};
 use crate::steps::{meet, remover};
 use records::access::{Access, Rights};
 use records::descriptor::Stage2;
@@ -53,7 +53,7 @@ fn stage2_cause(e: Stage2, a: Access) -> u8
 pub(crate) fn stage2_answer(e: Stage2, a: Access) -> Result<(), Stop>
     ensures { result ≡ stage2_answer e a }
 {
-    descriptor_answer(2, 13, 14, e.valid, e.af, e.bit51)?;
+    descriptor_answer(Stage::Two, 13, 14, e.valid, e.af, e.bit51)?;
     let cause = stage2_cause(e, a);
-    fault_unless(cause == 0, 2, Kind::Permission, cause)
+    fault_unless(cause == 0, Stage::Two, Kind::Permission, cause)
 }

@@ -39,7 +39,14 @@ pub(crate) fn pack_judgement(j: Result<Memory, Stop>) -> u64
 {
     match j {
         Ok(m) => pack_values(0, 0, 0, m.byte, m.sh, 0),
-        Err(Stop::Faulted(f)) => pack_values(0, f.stage, kind_number(f.kind), 0, 0, f.cause),
+        Err(Stop::Faulted(f)) => pack_values(
+            0,
+            f.stage.number(),
+            kind_number(f.kind),
+            0,
+            0,
+            f.cause,
+        ),
         Err(Stop::Refused(r)) => pack_values(r.number(), 0, 0, 0, 0, 0),
     }
 }

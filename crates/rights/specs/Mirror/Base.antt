@@ -21,6 +21,7 @@ use Rattle.rights.specs.declared.answers.Stop.TheVariants.{Refused}
 use Rattle.rights.specs.Answers.{Answer}
 use Rattle.records.specs.declared.refusal.Refusal.{Refusal}
 use Rattle.records.specs.declared.refusal.Refusal.TheVariants.{ReservedCode, Unjudged}
+use Rattle.rights.specs.declared.answers.Stage.TheVariants.{One}
 
 -- base rights, and whether overlays apply to them at each level
 pub record Base : Type 0 where
@@ -57,5 +58,5 @@ base_of s d t = cond s.control.indirect (indirect_of s.control s.pir d.piindex) 
 
 -- what follows for one access, where c is the cause of a missing right
 abbrev pub base_from : Setup → Stage1 → ℕ → Access → BaseAnswer → Answer
-base_from s d c a (Ok b) = follow (fault_unless (has b.rights a) 1 Permission c) (overlay_answer s d b.overlay a)
+base_from s d c a (Ok b) = follow (fault_unless (has b.rights a) One Permission c) (overlay_answer s d b.overlay a)
 base_from s d c a (Err n) = Err (Refused n)
