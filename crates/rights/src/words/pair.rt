@@ -41,7 +41,7 @@ impl Pair {
     }
 }
 
-// A table of pairs. What its entries keep and what they take away are two arrays, since an array of pairs was tried and takes 5 to 10 instructions more a leaf: a
+// A table of pairs. What its entries keep and what they take away are two arrays, since an array of pairs was tried and takes 2 to 7 instructions more a leaf: a
 // processor multiplies an index by 8 as it reads, and not by 16.
 #[derive(Clone, Copy)]
 pub struct Table<const N: usize> {
