@@ -13,32 +13,25 @@ ghost use Rattle.planner.specs.Plan.{in_order, plan_of, both_of};
 use crate::cut::plan_leaf;
 use crate::masks::{cut_mask, first_of, pack};
 use crate::start::begin;
-use records::access::Level;
 use records::refusal::{LeafRefusal, Refusal};
 use records::setup::PerLevel;
-use rights::pass::table::{BaseTable, base_table};
+use rights::pass::table::base_table;
+use rights::promise::LevelSetup;
 
 mod cut;
 mod masks;
 mod start;
 
-// One pass over the list, where `w` is the control word, `on` whether that level's overlay is and `base` the setup's tables for stage 1: each leaf's 5, 6
-// or 7, then 10, then the register.
-fn plan_leaves(
-    w: u32,
-    on: bool,
-    base: &BaseTable,
-    l: Level,
-    leaves: &[u8],
-) -> Result<u64, LeafRefusal>
-    ensures { result ≡ in_order (plans_by w on base.now l leaves.now) (length leaves.now / 18) }
+// One pass over the list: each leaf's 5, 6 or 7, then 10, then the register.
+fn plan_leaves(s: &LevelSetup, leaves: &[u8]) -> Result<u64, LeafRefusal>
+    ensures { result ≡ in_order (plans_by s.now.control s.now.on s.now.base s.now.level leaves.now) (length leaves.now / 18) }
 {
     let n = leaves.len() / 18;
     let mut masks = [7u8; 8];
     let mut first = None; // the first leaf that no register cures
     for i in 0..n {
         let a = i * 18;
-        let cut = match plan_leaf(w, on, base, l, &leaves[a..a + 18]) {
+        let cut = match plan_leaf(s, &leaves[a..a + 18]) {
             Ok(cut) => cut,
             Err(refusal) => return Err(LeafRefusal { refusal, leaf: i }),
         };
@@ -60,10 +53,14 @@ fn planned(setup: &[u8], level: u64, leaves: &[u8]) -> Result<u64, LeafRefusal>
 {
     let q = records::setup::read_words(setup)?;
     let c = records::setup::read_control(q.control);
-    let l = begin(c, level, leaves.len())?;
-    let on = c.overlay.of(l);
-    let base = base_table(q.control, q.pir.privileged, q.pir.unprivileged);
-    plan_leaves(q.control, on, &base, l, leaves)
+    let level = begin(c, level, leaves.len())?;
+    let s = LevelSetup {
+        level,
+        control: q.control,
+        on: c.overlay.of(level),
+        base: base_table(q.control, q.pir.privileged, q.pir.unprivileged),
+    };
+    plan_leaves(&s, leaves)
 }
 
 // The register of a level (0 privileged, 1 unprivileged) for a setup of 52 bytes and leaves of 18 bytes each.

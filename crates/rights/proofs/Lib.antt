@@ -1,7 +1,5 @@
 pub mod AccessChecks
 pub mod Branches
-pub mod Entries
-pub mod MadeTables
 pub mod Tables
 pub mod BaseMasks
 pub mod OrderLaws

@@ -8,6 +8,6 @@ pub use Rattle.rights.proofs.Refusals.{refusal_in, range-refusal, refusal-number
 pub use Rattle.rights.proofs.Named.{setup-number, leaf-number}
 -- The rights of a level are those of its single accesses.
 pub use Rattle.rights.proofs.LevelLaws.{answer_to, right_is, access-refused, access-not-refused}
--- The answer of `level_range` by a setup's table, and rights as bits.
+-- The answer of `LevelSetup::range` by a setup's table, and rights as bits.
 pub use Rattle.rights.proofs.Table.{range-by, place-below}
 pub use Rattle.rights.proofs.Masks.{and-bits, any-bits, slot-low}

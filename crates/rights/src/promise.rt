@@ -19,28 +19,31 @@ pub struct RangeMask {
     pub bare: u8,
 }
 
-// The refusal that an access of the level meets with 77777777 in place of that level's POR, or the range of its rights: `w` is the control word,
-// `on` whether that level's overlay is, `base` the setup's tables for stage 1, `d` and `e` are the descriptors, `t` is the limits.
-#[tactic(auto, unfolding(crate::specs::Mirror::Table::range_by))]
-pub fn level_range(
-    w: u32,
-    on: bool,
-    base: &BaseTable,
-    d: u64,
-    e: u64,
-    t: u8,
-    l: Level,
-) -> Result<RangeMask, Refusal>
-    ensures { result ≡ range_by w on base.now d e t l }
-{
-    let first = stage1_mask(base, w, d, t);
-    let second = stage2_mask(w, e);
-    let i = POIndex::of(d);
-    Ok(RangeMask {
-        place: i.place(),
-        full: level_mask(on, first, 7, second, l)?,
-        bare: level_mask(on, first, 0, second, l)?,
-    })
+// What a setup decides for a level: its control word, whether that level's overlay is on, and its tables for stage 1.
+#[derive(Clone, Copy)]
+pub struct LevelSetup {
+    pub level: Level,
+    pub control: u32,
+    pub on: bool,
+    pub base: BaseTable,
+}
+
+impl LevelSetup {
+    // The refusal that an access of the level meets with 77777777 in place of that level's POR, or the range of its rights: `d` and `e` are the descriptors,
+    // `t` is the limits.
+    #[tactic(auto, unfolding(crate::specs::Mirror::Table::range_by))]
+    pub fn range(&self, d: u64, e: u64, t: u8) -> Result<RangeMask, Refusal>
+        ensures { result ≡ range_by self.now.control self.now.on self.now.base d e t self.now.level }
+    {
+        let first = stage1_mask(&self.base, self.control, d, t);
+        let second = stage2_mask(self.control, e);
+        let i = POIndex::of(d);
+        Ok(RangeMask {
+            place: i.place(),
+            full: level_mask(self.on, first, 7, second, self.level)?,
+            bare: level_mask(self.on, first, 0, second, self.level)?,
+        })
+    }
 }
 
 // The slot that has the bits of these rights: a slot's bits are R, X, W and those of rights R, W, X. What a slot grants is its bits with X and W

@@ -57,8 +57,8 @@ loop-i-preserved c =
     let l = c.loop-i in
     let a = c.args in
     let n = length a.leaves.now / 18 in
-    let P = plans_by a.w a.on a.base.now a.l a.leaves.now in
-    let e = planned a.w a.on a.base.now a.l a.leaves.now l.i _ c.in-Ok.ensures in
+    let P = plans_by a.s.now.control a.s.now.on a.s.now.base a.s.now.level a.leaves.now in
+    let e = planned a.s.now.control a.s.now.on a.s.now.base a.s.now.level a.leaves.now l.i _ c.in-Ok.ensures in
     record {
       within = omega arith;
       planned = l.invariant.planned ∙ planned-go P n l.i c.loop-i-test.true _ e _;
@@ -78,7 +78,7 @@ returns-in-Some c =
     let v = c.loop-i.invariant in
     let d = c.loop-i-test.false in
     let n = length c.args.leaves.now / 18 in
-    let P = plans_by c.args.w c.args.on c.args.base.now c.args.l c.args.leaves.now in
+    let P = plans_by c.args.s.now.control c.args.s.now.on c.args.s.now.base c.args.s.now.level c.args.leaves.now in
     let f = v.found ∙ first-done P n c.loop-i.i c.loop-i.first (le_antisymm v.within d) ∙ ap (λ (z : Option ℕ). found_or z n) c.in-Some.is in
     sym (v.planned ∙ refused-done _ _ _ _ d ∙ uncured-settles _ _ _ f (v.below _ c.in-Some.is))
 
@@ -90,7 +90,7 @@ returns c =
     let v = c.loop-i.invariant in
     let d = c.loop-i-test.false in
     let n = length c.args.leaves.now / 18 in
-    let P = plans_by c.args.w c.args.on c.args.base.now c.args.l c.args.leaves.now in
+    let P = plans_by c.args.s.now.control c.args.s.now.on c.args.s.now.base c.args.s.now.level c.args.leaves.now in
     let f = v.found ∙ first-done P n c.loop-i.i c.loop-i.first (le_antisymm v.within d) ∙ ap (λ (z : Option ℕ). found_or z n) c.in_default.is in
     ap planned_as c.pack.ensures
     ∙ sym (v.planned ∙ refused-done _ _ _ _ d ∙ cured-settles _ _ _ _ f (omega arith) (v.cut ∙ cuts-done _ _ _ _ d))

@@ -7,7 +7,7 @@ use Rattle.planner.proofs.plan_leaves.Given as goal
 
 abbrev pub invariant-loop-i : goal.invariant-loop-i
 invariant-loop-i l =
-    let P = plans_by l.w l.on l.base l.l l.leaves in
+    let P = plans_by l.s.control l.s.on l.s.base l.s.level l.leaves in
     record {
       within : l.i ≤ l.n;
       planned : in_order P l.n ≡ refused_from P (settled P l.n) (l.n - l.i) l.i;

@@ -22,11 +22,11 @@ pub returns-in_err-q : goal.returns-in_err-q
 unfolding plan_of
 returns-in_err-q c = rw (setup-read _ _ (sym c.read_words.ensures)) (search rules)
 
-pub returns-in_err-l : goal.returns-in_err-l
-returns-in_err-l c = begun _ _ _ _ _ _ _ (sym c.read_words.ensures ∙ c.in_ok-q.was) c.read_control-c.ensures (sym c.in_err-l.was ∙ c.begin.ensures) (search rules)
+pub returns-in_err-level : goal.returns-in_err-level
+returns-in_err-level c = begun _ _ _ _ _ _ _ (sym c.read_words.ensures ∙ c.in_ok-q.was) c.read_control-c.ensures (sym c.in_err-level.was ∙ c.begin.ensures) (search rules)
 
 pub returns : goal.returns
 returns c =
-    let e = rw (c.of-on.ensures, c.read_control-c.ensures) at c.plan_leaves.ensures in
-    begun _ _ _ _ _ _ _ (sym c.read_words.ensures ∙ c.in_ok-q.was) c.read_control-c.ensures (sym c.in_ok-l.was ∙ c.begin.ensures)
-    (e ∙ leaves_by _ _ _ c.base_table-base.ensures _)
+    let e = rw (c.of.ensures, c.read_control-c.ensures) at c.plan_leaves.ensures in
+    begun _ _ _ _ _ _ _ (sym c.read_words.ensures ∙ c.in_ok-q.was) c.read_control-c.ensures (sym c.in_ok-level.was ∙ c.begin.ensures)
+    (e ∙ leaves_by _ _ _ c.base_table.ensures _)

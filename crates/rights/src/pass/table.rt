@@ -6,6 +6,7 @@ ghost use Rattle.rights.specs.Mirror.Table.{pair_at, TableOf};
 use crate::pass::direct::{descriptor_left, limits_left};
 use crate::pass::indirect::indirect_mask;
 use records::refusal::Refusal;
+use records::table::table_of;
 
 // The tables of a setup.
 #[derive(Clone, Copy)]
@@ -34,17 +35,9 @@ pub fn base_table(w: u32, p: u64, u: u64) -> BaseTable
 {
     let two = (w >> 0) % 2 == 1;
     let unlimited = (w >> 8) % 2 == 1;
-    let mut codes = [Ok(0); 16];
-    let mut descriptor = [0u8; 16];
-    let mut limits = [0u8; 16];
-    for k in 0..16 {
-        codes[k] = pair_at(w, p, u, k);
-        descriptor[k] = descriptor_left(two, k);
-        limits[k] = limits_left(two, unlimited, k);
-    }
     BaseTable {
-        codes,
-        descriptor,
-        limits,
+        codes: table_of(|k| pair_at(w, p, u, k)),
+        descriptor: table_of(|k| descriptor_left(two, k)),
+        limits: table_of(|k| limits_left(two, unlimited, k)),
     }
 }
