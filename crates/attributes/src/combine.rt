@@ -6,7 +6,8 @@ ghost use Rattle.attributes.specs.Combine.{with_device, weaker, level_nibble, no
 use crate::mair::is_device;
 use records::setup::Setup;
 
-// The class of a nibble: 1 Non-cacheable, 2 Write-Through, 3 Write-Back.
+// The class of a nibble: 1 Non-cacheable, 2 Write-Through, 3 Write-Back. A number and no enum: stage 2's are two bits of MemAttr as they stand (`outer_class`,
+// `inner_class` of specs/StageTwoType), 0 among them, and the theorem `weakens` compares both.
 fn class(n: u8) -> u8
     ensures { result ≡ class_of n }
 {
@@ -23,11 +24,7 @@ fn class(n: u8) -> u8
 fn weaker_class(n: u8, c: u8) -> u8
     ensures { result ≡ weaker (class_of n) c }
 {
-    let own = class(n);
-    if own <= c {
-        return own;
-    }
-    c
+    class(n).min(c)
 }
 
 // The stricter of stage 1's byte, where it is a Device, and stage 2's Device.

@@ -12,7 +12,7 @@ pub mod order;
 mod shareability;
 mod stage2;
 
-// The MAIR byte and SH of an allowed access.
+// The MAIR byte and SH of an allowed access, as Arm encodes them: Demand2 and the C interface give them so.
 #[derive(Clone, Copy)]
 pub struct Memory {
     pub byte: u8,

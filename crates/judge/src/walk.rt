@@ -50,6 +50,7 @@ pub(crate) fn first_refusal(s: Setup, leaves: &[u8], n: usize) -> Result<usize, 
 {
     for i in 0..n {
         let l = leaf_of(leaves, i);
+        // `map_err` with a closure over `i` is no shorter
         if let Err(refusal) = leaf_refusal(s, l) {
             return Err(LeafRefusal { refusal, leaf: i });
         }

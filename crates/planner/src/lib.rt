@@ -31,6 +31,7 @@ fn plan_leaves(s: &LevelSetup, leaves: &[u8]) -> Result<u64, LeafRefusal>
     let mut first = None; // the first leaf that no register cures
     for i in 0..n {
         let a = i * 18;
+        // `map_err` with a closure over `i` is no shorter, and its proof names one step more
         let cut = match plan_leaf(s, &leaves[a..a + 18]) {
             Ok(cut) => cut,
             Err(refusal) => return Err(LeafRefusal { refusal, leaf: i }),

@@ -63,7 +63,7 @@ pub struct LevelRights {
     pub execute: bool,
 }
 
-// The access of a number, if one has it.
+// The access of a number, if one has it. No TryFrom: its error would say nothing that `None` does not.
 #[tactic(auto, unfolding(crate::specs::Access::read_access))]
 pub fn read_access(n: u64) -> Option<Access>
     ensures { result ≡ read_access n }

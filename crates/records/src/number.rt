@@ -1,4 +1,4 @@
-// Little-endian numbers.
+// Little-endian numbers. `from_le_bytes` belongs to each type: a trait over the three would be longer than they are.
 ghost use Rattle.std.specs.Prelude.{◌≡◌, ◌+◌, ◌≤◌, length};
 ghost use Rattle.records.specs.Bytes.{le16, le32, le64};
 

@@ -69,6 +69,7 @@ impl fmt::Display for Refusal {
 #[derive(Clone, Copy, PartialEq, Eq, Debug)]
 pub struct LeafRefusal {
     pub refusal: Refusal,
+    // 0 and no Option: document 01 says so, and `unplaced` and the C interface with it.
     pub leaf: usize,
 }
 

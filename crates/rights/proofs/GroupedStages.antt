@@ -200,7 +200,7 @@ module _ (s : Setup) (d : ℕ) (p u : Bool) where
           after (before (pair_at (slot_words Privileged) (slot_if (s.control.overlay.privileged && a) (slot_at s.por.privileged i)))
           (pair_at (slot_words Unprivileged) (slot_if (s.control.overlay.unprivileged && b) (slot_at s.por.unprivileged i)))) n
 
-  slots-groups : (g : Option (Table 64)) → SlotsGrouped s g → (n : ℕ) (k : Bool) (w : Word) → Is n k w
+  pub slots-groups : (g : Option (Table 64)) → SlotsGrouped s g → (n : ℕ) (k : Bool) (w : Word) → Is n k w
       → Is (slots_grouped g (places_of d).slots (part_of p u) n) k (slots_word s (stage1_of d) p u w)
   unfolding stage1_of
   slots-groups (Some g) hs n k w h = rw hs.0 (both g hs.1 n k w h)

@@ -42,7 +42,8 @@ pub enum Kind {
 pub struct Fault {
     pub stage: Stage,
     pub kind: Kind,
-    // What took the right away, by request A1's number: 1 to 14.
+    // What took the right away, by request A1's number: 1 to 14. A number and no enum: ListDemands and the C interface have it as a byte, and `first_remover`
+    // of specs/Steps, `cause-fixes` and the words of a leaf reckon with it, 0 for none.
     pub cause: u8,
 }
 

@@ -3,7 +3,7 @@
 ghost use Rattle.std.specs.Prelude.{◌≡◌};
 ghost use Rattle.rights.specs.Checks.{setup_check, access_check, level_check, leaf_check};
 
-use records::access::{Access, Level};
+use records::access::{Access, Level, read_access};
 use records::leaf::Leaf;
 use records::refusal::{Refusal, check_if};
 use records::setup::Control;
@@ -25,9 +25,7 @@ pub fn check_setup(c: Control) -> Result<(), Refusal>
 pub(crate) fn check_access(two: bool, n: u64) -> Result<Access, Refusal>
     ensures { result ≡ access_check two n }
 {
-    let Some(a) = records::access::read_access(n) else {
-        return Err(Refusal::UnknownAccess);
-    };
+    let a = read_access(n).ok_or(Refusal::UnknownAccess)?;
     if two {
         return Ok(a);
     }

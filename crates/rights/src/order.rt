@@ -1,9 +1,7 @@
 // One access, step by step (document 01, 'The order a judgement is made in'): the first fault or refusal is the answer. The public function
 // has no `requires`.
-ghost use Rattle.std.specs.Prelude.{◌≡◌, cond, Ok};
+ghost use Rattle.std.specs.Prelude.{◌≡◌};
 ghost use Rattle.rights.specs.Order.{stages_answer, leaf_answer, rights_answer};
-ghost use Rattle.rights.specs.Stage1.{stage1_answer};
-ghost use Rattle.rights.specs.Stage2.{stage2_answer};
 
 use crate::answers::Stop;
 use crate::checks::{check_access, check_leaf, check_setup};
@@ -14,32 +12,18 @@ use records::descriptor::{Limits, Stage1, Stage2};
 use records::leaf::Leaf;
 use records::setup::Setup;
 
-// A stage that is off permits everything.
-fn stage1_if_on(s: Setup, d: Stage1, t: Limits, a: Access) -> Result<(), Stop>
-    ensures { result ≡ cond s.control.stage1 (stage1_answer s d t a) (Ok tt) }
-{
-    if s.control.stage1 {
-        return stage1_answer(s, d, t, a);
-    }
-    Ok(())
-}
-
-fn stage2_if_on(on: bool, e: Stage2, a: Access) -> Result<(), Stop>
-    ensures { result ≡ cond on (stage2_answer e a) (Ok tt) }
-{
-    if on {
-        return stage2_answer(e, a);
-    }
-    Ok(())
-}
-
-// Both stages of an access: no check comes before them.
+// Both stages of an access: no check comes before them. A stage that is off permits everything.
 #[tactic(auto, unfolding(crate::specs::Order::stages_answer))]
 fn judge_stages(s: Setup, d: Stage1, e: Stage2, t: Limits, a: Access) -> Result<(), Stop>
     ensures { result ≡ stages_answer s d e t a }
 {
-    stage1_if_on(s, d, t, a)?;
-    stage2_if_on(s.control.stage2, e, a)
+    if s.control.stage1 {
+        stage1_answer(s, d, t, a)?;
+    }
+    if s.control.stage2 {
+        stage2_answer(e, a)?;
+    }
+    Ok(())
 }
 
 fn judge_leaf(s: Setup, f: Leaf, a: Access) -> Result<(), Stop>

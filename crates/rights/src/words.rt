@@ -3,7 +3,6 @@
 // bits 56 to 61 the accesses that are good, and in bits 54, 55 and 62 what refuses a pair of base codes. An access is refused where it is open and not good. No
 // public function has a `requires`.
 ghost use Rattle.std.specs.Prelude.{◌≡◌, ◌<◌};
-ghost use Rattle.records.specs.Access.{digit};
 ghost use Rattle.rights.specs.Mirror.Parts.{slot_if, limits_if, last_index, code_if, stage2_number, overlaid_number, slots_number, direct_number, indirect_number, stage1_number, off_number, one_number, levels_number, unknown_number, known_number, leaf_number};
 
 pub mod groups;
@@ -41,7 +40,8 @@ fn stage2_word(on: bool, e: u64) -> u64
     WHOLE
 }
 
-// The slot that counts: 7, which stops nothing, where no overlay applies.
+// The slot that counts: 7, which stops nothing, where no overlay applies. This, `limits_if` and `code_if` are each named by what counts; one function with the
+// other value as a parameter would be no plainer.
 pub(crate) fn slot_if(on: bool, v: u8) -> usize
     ensures { (result ≡ slot_if on v) × (result < 16) }
 {
@@ -84,23 +84,13 @@ pub(crate) fn limits_if(unlimited: bool, t: u8) -> usize
     (t % 16) as usize
 }
 
-// A truth value as a digit.
-fn digit_of(b: bool) -> usize
-    ensures { (result ≡ digit b) × (result < 2) }
-{
-    if b {
-        return 1;
-    }
-    0
-}
-
 // What the last steps of Direct read, where the rights that the fields before them keep are bits 48 to 53 of `m`: pw, WXN, ur and PAN. uw holds where pw and
 // ur do.
 pub(crate) fn last_index(wxn: bool, pan: bool, m: u64) -> usize
     ensures { (result ≡ last_index wxn pan m) × (result < 16) }
 {
     let read = ((m >> 49) % 2 + (m >> 51) % 2 * 4) as usize;
-    read + (digit_of(wxn) * 2 + digit_of(pan) * 8)
+    read + (usize::from(wxn) * 2 + usize::from(pan) * 8)
 }
 
 // Direct: AP, PXN and UXN, then the limits, then the steps that read rights.

@@ -41,6 +41,7 @@ pub extern "C" fn sonsiplex_list(
     ensures demanded { (x : Listed) × (list_fields result ≡ list_values x) × ListDemands setup.now leaves.now out.old causes.old x out.new causes.new }
     ensures kept { 0 < (list_fields result).number → (out.new ≡ out.old) × (causes.new ≡ causes.old) }
 {
+    // as in `sonsiplex_plan`: must-fail/leaf_left_out and must-fail/register_in_a_refusal are each about one of the two
     match judge::list::list_rights(setup, leaves, out, causes) {
         Ok(n) => pack_numbers(0, 0, n as u32),
         Err(e) => pack_numbers(e.refusal.number(), e.leaf as u16, 0),

@@ -8,6 +8,7 @@ ghost use Rattle.sonsiplex.specs.Packing.{pack_judgement, judgement_fields, pack
 use attributes::Memory;
 use rights::answers::{Kind, Stop};
 
+// The number that the C interface has for a kind.
 fn kind_number(k: Kind) -> u8
     ensures { result ≡ kind_number k }
 {

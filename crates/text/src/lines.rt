@@ -36,7 +36,7 @@ impl Writer<'_> {
         self.word(b"\n");
     }
 
-    // A refusal: refusals 5 to 10 show the leaf.
+    // A refusal: refusals 5 to 10 show the leaf. Its number and leaf stand apart, as `refusal_line` has them.
     #[tactic(auto, using(crate::proofs::Lengths::refusal_length))]
     pub(crate) fn refusal(&mut self, number: u8, leaf: usize)
         ensures text { Adds self.old (refusal_line number leaf) self.new }

@@ -10,7 +10,7 @@ pub struct ByMemory {
     pub sh: [bool; 4],
 }
 
-// Valid, AF and bit 51, lowest first.
+// Valid, AF and bit 51, lowest first. With the bit as a const parameter this and the next would need a `requires` on it: no plainer.
 pub fn state(d: u64) -> usize
     ensures { (result ≡ state_of 51 d) × (result < 8) }
 {

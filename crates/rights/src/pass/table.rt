@@ -12,11 +12,11 @@ use records::table::table_of;
 #[derive(Clone, Copy)]
 pub struct BaseTable {
     // Under Indirect: the answer of the codes at each place of both PIRs.
-    pub codes: [Result<u8, Refusal>; 16],
+    pub(crate) codes: [Result<u8, Refusal>; 16],
     // Under Direct: what AP[2:1], PXN and UXN leave, by their four bits.
-    pub descriptor: [u8; 16],
+    pub(crate) descriptor: [u8; 16],
     // Under Direct: what the limits leave.
-    pub limits: [u8; 16],
+    pub(crate) limits: [u8; 16],
 }
 
 // The answer of the codes at place `k`.

@@ -26,7 +26,7 @@ const READ_WRITE: usize = 3;
 
 const AP_01: usize = 1;
 
-// The part of the table of slots where overlays apply to the rights of both levels.
+// The part of the table of slots where overlays apply to the rights of both levels. A number: must-fail/overlay_of_unprivileged_alone is about its bits.
 const BOTH_LEVELS: u8 = 48;
 
 // Stage 2's groups: valid with MemAttr (descriptor bits 5 to 0), AF with SH (10 to 8), dirty state with XN (54 to 51). S2AP is the last field.
@@ -235,16 +235,6 @@ fn slots_group(s: Setup) -> Option<Table<64>>
     None
 }
 
-// `n` where `b` holds, and else 0.
-fn weight(b: bool, n: u8) -> u8
-    ensures { (result ≡ cond b n 0) × (result ≤ n) }
-{
-    if b {
-        return n;
-    }
-    0
-}
-
 // The part of the table of slots, by the base codes to which overlays apply: 16 for the privileged one, 32 for the unprivileged one.
 fn applies_entry(s: Setup, k: usize) -> u8
     requires { k < 32 }
@@ -253,7 +243,7 @@ fn applies_entry(s: Setup, k: usize) -> u8
     let i = PIIndex::of(codes_descriptor(k));
     let p = i.code(s.pir.privileged) % 16;
     let u = i.code(s.pir.unprivileged);
-    weight(p < 8, 16) + weight(u < 8, 32)
+    u8::from(p < 8) * 16 + u8::from(u < 8) * 32
 }
 
 fn applies_group(s: Setup) -> [u8; 32]
