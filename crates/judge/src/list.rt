@@ -1,11 +1,14 @@
 // A list of leaves: one rights byte each, and six bytes of causes, all or nothing. A refused list changes no lent byte.
-ghost use Rattle.std.specs.Prelude.{◌≡◌};
+ghost use Rattle.std.specs.Prelude.{◌≡◌, ◌+◌, ◌*◌, ◌≤◌, length};
+ghost use Rattle.records.specs.Leaf.{leaf_count};
+ghost use Rattle.records.specs.Values.{passes};
+ghost use Rattle.rights.specs.Checks.{setup_check};
 ghost use Rattle.judge.specs.Demands.{ListDemands};
-ghost use Rattle.judge.specs.List.{list_check, list_of};
+ghost use Rattle.judge.specs.List.{list_check, leaves_of, list_of};
 
 use crate::leaves::{SHORT, list_leaves};
 use records::refusal::{LeafRefusal, Refusal, check_if};
-use records::setup::{Control, read_setup};
+use records::setup::{Control, Setup, read_setup};
 
 // 1, 2, 3, then 11, for a list of `len` bytes, an output of `room` bytes and a buffer of `causes` bytes.
 #[tactic(auto, unfolding(crate::specs::List::list_check))]
@@ -16,6 +19,27 @@ fn check_list(c: Control, len: usize, room: usize, causes: usize) -> Result<(), 
     let n = len / 18;
     let fits = (len % 18 == 0) & (n <= 2048) & ((n <= room) & (6 * n <= causes));
     check_if(!fits, Refusal::ListLength)
+}
+
+// The leaves of an accepted list by way of buffers for `R` leaves. Short lists have short ones, since buffers are cleared at each call, and in a function of
+// their own, since the compiler clears those of a function at its begin; that of the causes has two bytes more, since `put` stores eight.
+fn by_buffers<const R: usize, const C: usize>(
+    s: Setup,
+    leaves: &[u8],
+    out: &mut [u8],
+    causes: &mut [u8],
+) -> Result<usize, LeafRefusal>
+    requires sizes { (R ≤ 2048) × (C ≤ 12290) }
+    requires buffers { (leaf_count leaves.now ≤ R) × (6 * leaf_count leaves.now + 2 ≤ C) }
+    requires room { (leaf_count leaves.now ≤ length out.old) × (6 * leaf_count leaves.now ≤ length causes.old) }
+    requires accepted { (leaf_count leaves.now ≤ 2048) × (setup_check s.control ≡ passes) }
+    ensures answer { result ≡ (leaves_of s leaves.now out.old causes.old).answer }
+    ensures out { out.new ≡ (leaves_of s leaves.now out.old causes.old).out }
+    ensures causes { causes.new ≡ (leaves_of s leaves.now out.old causes.old).causes }
+{
+    let mut rights = [0u8; R];
+    let mut found = [0u8; C];
+    list_leaves(s, leaves, &mut rights, &mut found, out, causes)
 }
 
 // 13, 1, 2, 3, 11, then the leaves.
@@ -31,15 +55,10 @@ fn list_bytes(
 {
     let s = read_setup(setup)?;
     check_list(s.control, leaves.len(), out.len(), causes.len())?;
-    // short lists have short buffers, since buffers are cleared at each call; that of the causes has two bytes more, since `put` stores eight
     if leaves.len() <= SHORT * 18 {
-        let mut rights = [0u8; 64];
-        let mut found = [0u8; 386];
-        return list_leaves(s, leaves, &mut rights, &mut found, out, causes);
+        return by_buffers::<64, 386>(s, leaves, out, causes);
     }
-    let mut rights = [0u8; 2048];
-    let mut found = [0u8; 12290];
-    list_leaves(s, leaves, &mut rights, &mut found, out, causes)
+    by_buffers::<2048, 12290>(s, leaves, out, causes)
 }
 
 // The list: the number of leaves. One rights byte per leaf goes to the start of `out`, six bytes per leaf in access order to the start of `causes`, and later

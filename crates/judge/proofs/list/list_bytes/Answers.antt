@@ -22,26 +22,26 @@ pub returns-in_err-check_list : goal.returns-in_err-check_list
 returns-in_err-check_list c =
     rw (follows _ _ _ _ c.in_ok-s.s _ (sym c.read_setup.ensures ∙ c.in_ok-s.was) (sym c.check_list.ensures ∙ c.in_err-check_list.was)) (search rules)
 
--- what the call of `list_leaves` asks, for either pair of buffers
-pub list_leaves-requires : goal.list_leaves-requires
-list_leaves-requires c =
+-- what the call of `by_buffers` asks, for either pair of buffers
+pub by_buffers-requires : goal.by_buffers-requires
+by_buffers-requires c =
     let h = fitting _ _ _ _ (sym c.check_list.ensures ∙ c.in_ok-check_list.was) in
     let s = c.if-leaves.true in
-    record { buffers = (omega (arith, s), omega (arith, s)); room = (h.roomy, h.caused); accepted = (h.few, h.accepted) }
+    record { sizes = (omega arith, omega arith); buffers = (omega (arith, s), omega (arith, s)); room = (h.roomy, h.caused); accepted = (h.few, h.accepted) }
 
-pub list_leaves-requires-2 : goal.list_leaves-requires-2
-list_leaves-requires-2 c =
+pub by_buffers-requires-2 : goal.by_buffers-requires-2
+by_buffers-requires-2 c =
     let h = fitting _ _ _ _ (sym c.check_list.ensures ∙ c.in_ok-check_list.was) in
-    record { buffers = (h.few, omega (arith, h.few)); room = (h.roomy, h.caused); accepted = (h.few, h.accepted) }
+    record { sizes = (omega arith, omega arith); buffers = (h.few, omega (arith, h.few)); room = (h.roomy, h.caused); accepted = (h.few, h.accepted) }
 
 pub returns-then-leaves : goal.returns-then-leaves
 returns-then-leaves c =
     let e = sym (follows _ _ _ _ c.in_ok-s.s _ (sym c.read_setup.ensures ∙ c.in_ok-s.was) (sym c.check_list.ensures ∙ c.in_ok-check_list.was)) in
-    let x = c.list_leaves.ensures in
+    let x = c.by_buffers.ensures in
     record { answer = x.answer ∙ ap (λ (y : ListResult). y.answer) e; out = x.out ∙ ap (λ (y : ListResult). y.out) e; causes = x.causes ∙ ap (λ (y : ListResult). y.causes) e }
 
 pub returns : goal.returns
 returns c =
     let e = sym (follows _ _ _ _ c.in_ok-s.s _ (sym c.read_setup.ensures ∙ c.in_ok-s.was) (sym c.check_list.ensures ∙ c.in_ok-check_list.was)) in
-    let x = c.list_leaves-2.ensures in
+    let x = c.by_buffers-2.ensures in
     record { answer = x.answer ∙ ap (λ (y : ListResult). y.answer) e; out = x.out ∙ ap (λ (y : ListResult). y.out) e; causes = x.causes ∙ ap (λ (y : ListResult). y.causes) e }
