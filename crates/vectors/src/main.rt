@@ -17,10 +17,10 @@
 
 use crate::table::Case;
 use std::io;
-use std::io::Read;
 
 mod decoding;
 mod files;
+mod input;
 mod judgements;
 mod lists;
 mod output;
@@ -51,12 +51,11 @@ fn print_case(rt: &impl Print, line: &[u8]) -> io::Result<()> {
     print_answer(rt, &table::words(numbers))
 }
 
-// Of the input the first 65,536 bytes are read. `get` as in `listing`: the count of `copy` has no bound of its own.
+// Of the input the first 65,536 bytes are read.
 fn main(rt: HostRuntime) -> io::Result<()> {
     let mut table = [0u8; 65536];
-    let n = io::copy(&mut rt.stdin().take(65536), &mut &mut table[..])?;
-    let cases = table.get(..n as usize).unwrap_or(&table);
-    for line in cases.split_inclusive(|c| *c == b'\n') {
+    let n = input::read_full(&mut rt.stdin(), &mut table)?;
+    for line in table[..n].split_inclusive(|c| *c == b'\n') {
         print_case(&rt, line.strip_suffix(b"\n").unwrap_or(line))?;
     }
     Ok(())
