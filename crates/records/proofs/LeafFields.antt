@@ -4,7 +4,7 @@ use mathlib.Core.Path.{◌≡◌, refl}
 use mathlib.Core.List.{List, [], ◌∷◌, ◌++◌, append_assoc, append-nil}
 use mathlib.Core.Bool.{Bool, true, false, cond}
 use Prim.Native.Nat.{ℕ, zero, suc, ◌+◌, ◌*◌, ◌-◌, ◌≤◌, ◌<◌}
-use native.Mathlib.Nat.{add-zero, add_assoc, not-suc-le-zero}
+use native.Mathlib.Nat.{zero-add, add-zero, add_assoc, not-suc-le-zero}
 use native.Mathlib.Omega.{arith}
 use lib.Dec.{leb}
 use lib.ListN.{length, take, drop, length-append, length-take, length-drop, drop_of_length-le}
@@ -17,6 +17,10 @@ use Rattle.std.specs.Prelude.{Result, Ok, Err, Option, Some, None}
 use Rattle.records.specs.declared.refusal.Refusal.{Refusal}
 use Rattle.records.specs.declared.refusal.Refusal.TheVariants.{ListLength, IllFormed}
 use Rattle.records.specs.MapFile.{begins_with, value, rest, Leaves, leaves, ill_formed, prepend, leaves_of, file_of, FileResult, read_file}
+
+pub prepend-none : (x : Leaves) → prepend 0 [] x ≡ x
+prepend-none (leaves m c) = rw zero-add
+prepend-none ill_formed = refl
 
 prepend-twice : (n m : ℕ) (a b : List ℕ) (x : Leaves) → prepend n a (prepend m b x) ≡ prepend (n + m) (a ++ b) x
 prepend-twice n m a b (leaves k c) = rw (add_assoc, append_assoc)

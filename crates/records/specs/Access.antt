@@ -1,6 +1,6 @@
 -- Document 01, 'Setup and leaf records': access numbers, which the forbidden bits agree with; and sets of accesses, which both stages grant.
 -- Assumes nothing.
-use Rattle.std.specs.Prelude.{ℕ, ◌+◌, ◌*◌, ◌/◌, ◌%◌, ◌^◌, List, [], ◌∷◌, Bool, cond, leb, get_or, Option, Some, None}
+use Rattle.std.specs.Prelude.{ℕ, ◌+◌, ◌*◌, ◌/◌, ◌%◌, ◌^◌, List, [], ◌∷◌, Bool, cond, leb, get_or, Option, Some, None, codes}
 use Rattle.records.specs.declared.access.Access.{Access}
 use Rattle.records.specs.declared.access.Level.{Level}
 use Rattle.records.specs.declared.access.Level.TheVariants.{Privileged, Unprivileged}
@@ -8,6 +8,16 @@ use Rattle.records.specs.declared.access.LevelRights.{LevelRights}
 use Rattle.records.specs.declared.access.Right.{Right}
 use Rattle.records.specs.declared.access.Right.TheVariants.{Read, Write, Execute}
 use Rattle.records.specs.declared.access.Rights.{Rights}
+
+-- how levels and rights are printed, which no sentence of the paper says
+abbrev pub level_text : Level → List ℕ
+level_text Privileged = codes "privileged"
+level_text Unprivileged = codes "unprivileged"
+
+abbrev pub right_text : Right → List ℕ
+right_text Read = codes "read"
+right_text Write = codes "write"
+right_text Execute = codes "execute"
 
 -- an access: a right of a level
 abbrev pub access_of : Level → Right → Access

@@ -36,8 +36,8 @@ abbrev pub passes : Check
 passes = Ok tt
 
 -- a refusal where something is bad
-abbrev pub check_if : Bool → Refusal → Check
-check_if bad r = cond bad (Err r) passes
+abbrev pub check_if : {E : Type 0} → Bool → E → Result ⊤ E
+check_if bad r = cond bad (Err r) (Ok tt)
 
 -- 13: a setup or leaf that is not n bytes
 abbrev pub length_check : List ℕ → ℕ → Check

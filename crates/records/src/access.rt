@@ -19,6 +19,11 @@ pub enum Right {
 }
 
 impl fmt::Display for Level {
+    ghost use Rattle.std.specs.Prelude.{Some};
+    ghost use Rattle.records.specs.Access.{level_text};
+
+    ghost output = { λ l. Some (level_text l) };
+
     fn fmt<W: fmt::Write>(&self, f: &mut fmt::Formatter<W>) -> fmt::Result {
         f.write_str(match self {
             Level::Privileged => "privileged",
@@ -28,6 +33,11 @@ impl fmt::Display for Level {
 }
 
 impl fmt::Display for Right {
+    ghost use Rattle.std.specs.Prelude.{Some};
+    ghost use Rattle.records.specs.Access.{right_text};
+
+    ghost output = { λ r. Some (right_text r) };
+
     fn fmt<W: fmt::Write>(&self, f: &mut fmt::Formatter<W>) -> fmt::Result {
         f.write_str(match self {
             Right::Read => "read",

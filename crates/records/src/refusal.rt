@@ -60,6 +60,10 @@ impl Refusal {
 
 // The number.
 impl fmt::Display for Refusal {
+    ghost use Rattle.std.specs.Prelude.{Some, decimal};
+
+    ghost output = { λ r. Some (decimal (refusal_number r)) };
+
     fn fmt<W: fmt::Write>(&self, f: &mut fmt::Formatter<W>) -> fmt::Result {
         write!(f, "{}", self.number())
     }
@@ -82,13 +86,17 @@ impl From<Refusal> for LeafRefusal {
 }
 
 impl fmt::Display for LeafRefusal {
+    ghost use Rattle.std.specs.Prelude.{Some, ◌++◌, codes, decimal};
+
+    ghost output = { λ r. Some (decimal (refusal_number r.refusal) ++ (codes " leaf " ++ decimal r.leaf)) };
+
     fn fmt<W: fmt::Write>(&self, f: &mut fmt::Formatter<W>) -> fmt::Result {
         write!(f, "{} leaf {}", self.refusal, self.leaf)
     }
 }
 
-// A refusal where something is bad.
-pub fn check_if(bad: bool, refusal: Refusal) -> Result<(), Refusal>
+// A refusal where something is bad, whatever a refusal is.
+pub fn check_if<E: Copy>(bad: bool, refusal: E) -> Result<(), E>
     ensures { result ≡ check_if bad refusal }
 {
     if bad {

@@ -25,6 +25,10 @@ impl Stage {
 
 // The number.
 impl fmt::Display for Stage {
+    ghost use Rattle.std.specs.Prelude.{Some, decimal};
+
+    ghost output = { λ s. Some (decimal (stage_number s)) };
+
     fn fmt<W: fmt::Write>(&self, f: &mut fmt::Formatter<W>) -> fmt::Result {
         write!(f, "{}", self.number())
     }

@@ -1,5 +1,5 @@
 -- One more leaf field, one too many, none, or the end.
-use Rattle.std.proofs.Common.{rules, ◌≡◌, ◌≤◌, ◌<◌, ◌+◌, ◌*◌, ◌-◌, length, take, refl, sym, ◌∙◌, arith}
+use Rattle.std.proofs.Common.{rules, ◌≡◌, ◌≤◌, ◌+◌, ◌*◌, ◌-◌, length, take, refl, sym, ◌∙◌, arith}
 use Rattle.std.proofs.Math.ListN.{length-drop}
 use borrow.Rule.Slice.PartMut.{same_len_mid}
 use Rattle.records.proofs.LeafFields.{ends, too_many, other, turn, whole}
