@@ -33,7 +33,7 @@ use Rattle.records.specs.Values.{Check}
 use Rattle.planner.specs.Plan.{LeafPlan}
 use Rattle.planner.specs.Plan.{cut}
 use Rattle.rights.specs.declared.promise.RangeMask.{RangeMask}
-use Rattle.rights.specs.Mirror.Table.{TableOf}
+use Rattle.rights.specs.Mirror.Table.{ModeTableOf}
 use Rattle.rights.specs.declared.pass.table.BaseTable.{BaseTable}
 
 -- the forbidden bits of a level: digits 0 to 2
@@ -73,7 +73,7 @@ mask-plan f l (LevelRange.Range k full bare) =
     (ap (λ (n : ℕ). not (eqb n 0)) (in-common f l bare) ∙ any-bits (common (forbidden_rights f l) bare))
 mask-plan f l (LevelRange.NoRange n) = refl
 
-module _ (q : Words) (b : BaseTable) (l : Level) (h : TableOf q.control q.pir.privileged q.pir.unprivileged b) where
+module _ (q : Words) (b : BaseTable) (l : Level) (h : ModeTableOf q.control q.pir.privileged q.pir.unprivileged b) where
   -- that level's overlay is on
   abbrev on : Bool
   on = of_level (control_of q.control).overlay l

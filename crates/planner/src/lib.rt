@@ -15,7 +15,7 @@ use crate::masks::{cut_mask, first_of, pack};
 use crate::start::begin;
 use records::refusal::{LeafRefusal, Refusal};
 use records::setup::PerLevel;
-use rights::pass::table::base_table;
+use rights::pass::table::mode_table;
 use rights::promise::LevelSetup;
 
 mod cut;
@@ -59,7 +59,7 @@ fn planned(setup: &[u8], level: u64, leaves: &[u8]) -> Result<u64, LeafRefusal>
         level,
         control: q.control,
         on: c.overlay.of(level),
-        base: base_table(q.control, q.pir.privileged, q.pir.unprivileged),
+        base: mode_table(q.control, q.pir.privileged, q.pir.unprivileged),
     };
     plan_leaves(&s, leaves)
 }

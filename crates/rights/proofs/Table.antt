@@ -20,7 +20,7 @@ use Rattle.rights.specs.Mirror.BaseMasks.{descriptor_place}
 use Rattle.rights.specs.Promise.{range_of, range_mask}
 use Rattle.rights.specs.Mirror.Masks.{setup_with, stage1_mask, stage2_mask, mask_with, range_with}
 use Rattle.rights.specs.Mirror.Pass.{stage1_pass, stage2_pass}
-use Rattle.rights.specs.Mirror.Table.{pair_at, TableOf, direct_by, stage1_by, full_and_bare, range_by}
+use Rattle.rights.specs.Mirror.Table.{pair_at, TableOf, ModeTableOf, direct_by, stage1_by, full_and_bare, range_by}
 use Rattle.rights.specs.declared.pass.table.BaseTable.{BaseTable}
 use Rattle.rights.specs.declared.promise.RangeMask.{RangeMask}
 use Rattle.records.specs.declared.refusal.Refusal.TheVariants.{Unjudged}
@@ -30,7 +30,11 @@ use Rattle.records.specs.declared.refusal.Refusal.{Refusal}
 use Rattle.rights.specs.Mirror.BaseMasks.{Mask}
 use Rattle.rights.specs.Promise.{range}
 
-module _ (b : BaseTable) (w p u d t : ℕ) (h : TableOf w p u b) where
+-- tables of a setup whatever its mode are tables in its mode
+pub in-mode : {w p u : ℕ} {b : BaseTable} → TableOf w p u b → ModeTableOf w p u b
+in-mode h = record { codes = λ i. h.codes; direct = record { descriptor = h.descriptor; limits = h.limits } }
+
+module _ (b : BaseTable) (w p u d t : ℕ) (h : ModeTableOf w p u b) where
   abbrev exact : Mask
   exact = stage1_mask (stage1_pass (setup_with w p u) (stage1_of d) (limits_of t))
 
@@ -43,7 +47,7 @@ module _ (b : BaseTable) (w p u d t : ℕ) (h : TableOf w p u b) where
   -- Direct
   direct : direct_by b w d t ≡ bit_or (six_mask (direct_of (control_of w) (stage1_of d) (limits_of t))) 192
   direct =
-      rw (h.descriptor (descriptor_place d) (omega arith), h.limits (t % 16) (omega arith))
+      rw (h.direct.descriptor (descriptor_place d) (omega arith), h.direct.limits (t % 16) (omega arith))
       (ap (λ (n : ℕ). bit_or n 192) (direct-left w d t))
 
   pub with-table : stage1_by b w d t ≡ exact
@@ -55,11 +59,11 @@ module _ (b : BaseTable) (w p u d t : ℕ) (h : TableOf w p u b) where
       go false fine i seven top a c e f g = rw a refl
       go true false i seven top a c e f g = rw (a, c) refl
       go true true true true top a c e f g = rw (a, c, e, f) refl
-      go true true true false top a c e f g = h.codes (code_place (pi_index d)) (omega arith) (Err Unjudged) ∙ sym (pair e a c f)
+      go true true true false top a c e f g = h.codes e (code_place (pi_index d)) (omega arith) (Err Unjudged) ∙ sym (pair e a c f)
       go true true false seven true a c e f g = rw (a, c, e, g) refl
       go true true false seven false a c e f g = ap Ok direct ∙ sym (stage1-direct (setup_with w p u) (stage1_of d) (limits_of t) a c e g)
 
-pub range-by : (q : Words) (b : BaseTable) (d e t : ℕ) (l : Level) → TableOf q.control q.pir.privileged q.pir.unprivileged b
+pub range-by : (q : Words) (b : BaseTable) (d e t : ℕ) (l : Level) → ModeTableOf q.control q.pir.privileged q.pir.unprivileged b
     → range_by q.control (of_level (control_of q.control).overlay l) b d e t l ≡ range_mask (range_of (setup_from q) (stage1_of d) (stage2_of e) (limits_of t) l)
 unfolding range_by
 range-by q b d e t l h =

@@ -29,4 +29,4 @@ pub returns : goal.returns
 returns c =
     let e = rw (c.of.ensures, c.read_control-c.ensures) at c.plan_leaves.ensures in
     begun _ _ _ _ _ _ _ (sym c.read_words.ensures ∙ c.in_ok-q.was) c.read_control-c.ensures (sym c.in_ok-level.was ∙ c.begin.ensures)
-    (e ∙ leaves_by _ _ _ c.base_table.ensures _)
+    (e ∙ leaves_by _ _ _ c.mode_table.ensures _)

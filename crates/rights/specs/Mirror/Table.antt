@@ -1,6 +1,6 @@
 -- Tables that a setup decides once, by which stage 1 of a leaf is known up to the overlay. Nothing here needs to be believed: the laws
 -- `with-table` and `range-by` of proofs/Table say that it gives what Pass and Promise have. Assumes nothing.
-use Rattle.std.specs.Prelude.{ℕ, ◌%◌, ◌<◌, ◌≡◌, Bool, cond, ◌&&◌, get_or, Result, Ok, Err}
+use Rattle.std.specs.Prelude.{ℕ, ◌%◌, ◌<◌, ◌≡◌, Bool, true, cond, ◌&&◌, get_or, Result, Ok, Err}
 use Rattle.std.specs.Int.Bits.{bit_and, bit_or}
 use Rattle.records.specs.Bits.{bit, nibble}
 use Rattle.records.specs.Descriptor.{stage2_of, pi_index, entry_of, po_index, place_of}
@@ -25,6 +25,16 @@ pub record TableOf (w p u : ℕ) (b : BaseTable) : Type 0 where
   pub codes : (k : ℕ) → k < 16 → (other : Mask) → get_or b.codes k other ≡ pair_at w p u k
   pub descriptor : (k : ℕ) → k < 16 → get_or b.descriptor k 0 ≡ descriptor_left (bit w 0) k
   pub limits : (k : ℕ) → k < 16 → get_or b.limits k 0 ≡ limits_left (bit w 0) (bit w 8) k
+
+-- the same under Direct alone, whose tables the PIRs do not bear on
+pub record DirectTableOf (w : ℕ) (b : BaseTable) : Type 0 where
+  pub descriptor : (k : ℕ) → k < 16 → get_or b.descriptor k 0 ≡ descriptor_left (bit w 0) k
+  pub limits : (k : ℕ) → k < 16 → get_or b.limits k 0 ≡ limits_left (bit w 0) (bit w 8) k
+
+-- the same in the setup's mode: under Direct no codes are read
+pub record ModeTableOf (w p u : ℕ) (b : BaseTable) : Type 0 where
+  pub codes : bit w 3 ≡ true → (k : ℕ) → k < 16 → (other : Mask) → get_or b.codes k other ≡ pair_at w p u k
+  pub direct : DirectTableOf w b
 
 -- Direct rights of descriptor d and limits t by tables b; overlays apply at both levels
 abbrev pub direct_by : BaseTable → ℕ → ℕ → ℕ → ℕ
