@@ -1,4 +1,4 @@
-// Stage 1 of a leaf by the tables of `base_table`, up to the overlay. No public function has a `requires`. Words of a setup and descriptors go in as they stand.
+// Stage 1 of a leaf by the tables of its setup (`BaseTable`), up to the overlay. No public function has a `requires`. Words of a setup and descriptors go in as they stand.
 ghost use Rattle.std.specs.Prelude.{◌≡◌};
 ghost use Rattle.rights.specs.Mirror.Table.{direct_by, stage1_by};
 
